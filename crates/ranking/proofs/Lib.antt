@@ -1,0 +1,9 @@
+pub mod Listing
+pub mod Sums
+pub mod Ways
+pub mod Completions
+pub mod Size
+pub mod Sorted
+pub mod Strings
+pub mod Places
+pub mod WindowAt

@@ -1,0 +1,55 @@
+-- The ways to fill the places that are left, and L(n, k) as one of them. Assumes nothing.
+use mathlib.Core.Path.{_≡_, refl, ap}
+use Prim.Native.Nat.{ℕ, zero, suc, _+_, _*_, _≤_, _<_, zero-le, suc-le-suc}
+use native.Mathlib.Nat.{mul-zero, mul-le-mul-right}
+use native.Mathlib.Decide.{le-ind}
+use native.Mathlib.Omega.{arith}
+use Rattle.ranking.specs.Counts.{L, sum, a, ways}
+
+-- one more height is allowed: it occurs, or it does not
+pub ways-split : (r m p : ℕ) → ways r m (suc p) ≡ ways r (suc m) p + ways r m p
+unfolding ways
+ways-split zero zero p = refl
+ways-split zero (suc m) p = refl
+ways-split (suc r) zero p = omega (arith, ap (p *_) (ways-split r zero p))
+ways-split (suc r) (suc m) p = omega (arith, ap (p *_) (ways-split r (suc m) p), ap (suc m *_) (ways-split r m (suc p)))
+
+pub L-ways : (n k : ℕ) → L n k ≡ ways n k 0
+unfolding L ways
+L-ways zero zero = refl
+L-ways zero (suc k) = refl
+L-ways (suc n) zero = omega arith
+L-ways (suc n) (suc k) =
+    let e : ways n k 1 ≡ L n (suc k) + L n k = omega (arith, ways-split n k 0, L-ways n (suc k), L-ways n k) in
+    omega (arith, ap (suc k *_) e)
+
+-- no more different symbols than places
+pub L-none : (n k : ℕ) → n < k → L n k ≡ 0
+unfolding L
+L-none n zero h = absurd (omega arith)
+L-none zero (suc k) h = refl
+L-none (suc n) (suc k) h = rw (L-none n (suc k) (omega arith), L-none n k (omega arith), mul-zero)
+
+-- nor ways to place more than there is room for
+pub ways-none : (r m p : ℕ) → r < m → ways r m p ≡ 0
+unfolding ways
+ways-none r zero p h = absurd (omega arith)
+ways-none zero (suc m) p h = refl
+ways-none (suc r) (suc m) p h = rw (ways-none r m (suc p) (omega arith), ways-none r (suc m) p (omega arith), mul-zero, mul-zero)
+
+-- a grows
+pub a-mono : (m n : ℕ) → m ≤ n → a m ≤ a n
+unfolding a sum L
+a-mono m n h = le-ind (λ n. a m ≤ a n) (omega arith) (λ n l i. omega (arith, next n)) n h
+  where
+    grow : (n k : ℕ) → L (suc n) k ≤ L (suc (suc n)) k
+    grow n zero = omega arith
+    grow n (suc k) = omega (arith, mul-le-mul-right (L (suc n) (suc k) + L (suc n) k) (suc-le-suc {n = 0} {m = k} zero-le))
+
+    sums : (n k : ℕ) → sum (L (suc n)) k ≤ sum (L (suc (suc n))) k
+    sums n zero = omega arith
+    sums n (suc k) = omega (arith, grow n k, sums n k)
+
+    next : (n : ℕ) → a n ≤ a (suc n)
+    next zero = omega arith
+    next (suc n) = omega (arith, sums n (suc (suc n)))

@@ -1,0 +1,5 @@
+pub mod FirstSymbol
+pub mod Singles
+pub mod SetR
+pub mod Rule1
+pub mod Rules23

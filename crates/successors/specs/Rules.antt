@@ -1,0 +1,95 @@
+-- The three successor rules (document 01, "Windows"; 002, Algorithm 1 and section 4), and one step.
+use mathlib.Core.Bool.{Bool, true, false, cond, not, _&&_, _||_}
+use mathlib.Core.List.{List, [], _∷_, _++_}
+use Prim.Native.Nat.{ℕ, zero, suc, _+_, _-_}
+use lib.Dec.{leb, ltb, eqb}
+use lib.ListN.{take, drop}
+use Rattle.weak_orders.specs.Window.{all, num, isRank, isHeight, shifted}
+use Rattle.weak_orders.specs.Rotation.{start, isGreatest}
+
+-- v is 1, or occurs once in w
+unfoldable pub single : List ℕ → ℕ → Bool
+unfolding num
+single w v = eqb v 1 || eqb (num w v) 1
+
+-- document 01's "plain": no symbol but 1 repeats
+unfoldable pub isPlain : List ℕ → Bool
+unfolding all single
+isPlain w = all (single w) w
+
+-- the largest symbol of w below v, and 0 where there is none
+unfoldable pub largestBelow : List ℕ → ℕ → ℕ
+largestBelow [] v = 0
+largestBelow (x ∷ w) v = cond (ltb x v && ltb (largestBelow w v) x) x (largestBelow w v)
+
+-- the symbols w_i with 2 ≤ i < t, indices counted from 1
+unfoldable pub before : ℕ → List ℕ → List ℕ
+before t w = drop 1 (take (t - 1) w)
+
+-- Cases 3 and 4 for a window x b.
+unfoldable pub case3 : ℕ → List ℕ → Bool
+unfolding isPlain num all single before start
+case3 x b =
+    let w = x ∷ b in
+    not (isPlain w) && (ltb 1 x && (ltb 1 (num w x) && all (single w) (before (start w) w)))
+
+unfoldable pub case4 : ℕ → List ℕ → ℕ → Bool
+unfolding num all single before start
+case4 x b p =
+    let w = x ∷ b in
+    ltb 1 x && (eqb (num w x) 1 && (not (eqb p 1) && all (λ v. not (eqb v p) && single w v) (before (start (p ∷ b)) w)))
+
+unfoldable pub rule1 : List ℕ → ℕ
+unfolding isPlain num largestBelow case3 case4
+rule1 [] = 0
+rule1 (x ∷ b) =
+    let w = x ∷ b in
+    let p = largestBelow w x in
+    cond (isPlain w && eqb x (suc (num w 1))) 1 (
+    cond (isPlain w && eqb x 1) (num w 1) (
+    cond (case3 x b) (x + num w x - 1) (
+    cond (case4 x b p) p x)))
+
+-- document 01's R: height windows that are their own greatest rotation, without the all-zero window
+unfoldable pub inR : List ℕ → Bool
+unfolding isHeight isGreatest all
+inR w = isHeight w && (isGreatest w w && not (all (eqb 0) w))
+
+-- x - 1 in R, which asks that x is not 0
+unfoldable pub inR⁻ : ℕ → List ℕ → Bool
+unfolding inR
+inR⁻ zero b = false
+inR⁻ (suc x) b = inR (x ∷ b)
+
+unfoldable pub rule2 : List ℕ → ℕ
+unfolding inR inR⁻
+rule2 [] = 0
+rule2 (x ∷ b) =
+    cond (inR (suc x ∷ b)) (suc x) (
+    cond (inR (x ∷ b) && inR⁻ x b) (x - 2) (
+    cond (inR (x ∷ b)) (x - 1) x))
+
+unfoldable pub rule3 : List ℕ → ℕ
+unfolding inR
+rule3 [] = 0
+rule3 (x ∷ b) =
+    cond (inR (x ∷ b)) (x - 1) (
+    cond (inR (suc x ∷ b) && inR (suc (suc x) ∷ b)) (suc (suc x)) (
+    cond (inR (suc x ∷ b)) (suc x) x))
+
+-- the rule with a number, 1 to 3; the window's form under it
+unfoldable pub ruleOf : ℕ → List ℕ → ℕ
+unfolding rule1 rule2 rule3
+ruleOf r w = cond (eqb r 1) (rule1 w) (cond (eqb r 2) (rule2 w) (rule3 w))
+
+unfoldable pub inForm : ℕ → List ℕ → Bool
+unfolding isRank isHeight
+inForm r w = cond (eqb r 1) (isRank w) (isHeight w)
+
+unfoldable pub isRule : ℕ → Bool
+isRule r = leb 1 r && leb r 3
+
+-- one step of a rule: the oldest symbol is dropped and the rule's appended
+unfoldable pub step : (List ℕ → ℕ) → List ℕ → List ℕ
+unfolding shifted
+step rule w = shifted w (rule w)

@@ -1,0 +1,7 @@
+pub mod Pigeonhole
+pub mod Tours
+pub mod Joined
+pub mod Agreeing
+pub mod Rings1
+pub mod Rings23
+pub mod Rounds

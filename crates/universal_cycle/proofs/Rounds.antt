@@ -1,0 +1,72 @@
+-- The universal cycle theorem: from any weak order of n in a rule's form, a(n) steps meet each once and end at the start.
+-- Assumes nothing.
+use mathlib.Core.List.{List}
+use mathlib.Core.Path.{_≡_, subst}
+use Prim.Native.Nat.{ℕ, suc, zero, _≤_, _<_}
+use native.Mathlib.Omega.{arith}
+use lib.ListN.{length}
+use native.Mathlib.Decide.{ℕ-discrete}
+use lib.Dec.{leb}
+use mathlib.Core.Bool.{true}
+use borrow.Author.Tests.{leb-true}
+use Rattle.weak_orders.proofs.Rotations.{turn}
+use Rattle.weak_orders.proofs.Tests.{says-itself, says-and}
+use Rattle.ranking.specs.Counts.{L, a}
+use Rattle.ranking.specs.Dictionary.{place}
+use Rattle.ranking.specs.Numbering.{Numbering}
+use Rattle.ranking.proofs.Places.{heights-numbered, ranks-numbered}
+use Rattle.successors.specs.Rules.{rule1, rule2, rule3, ruleOf, inForm, isRule, step}
+use Rattle.successors.proofs.FirstSymbol.{change, turn-change}
+use Rattle.universal_cycle.specs.Round.{Tour, WeakOrder, UniversalCycle}
+use Rattle.universal_cycle.proofs.Agreeing.{same-tour}
+use Rattle.universal_cycle.proofs.Joined.{Joined, one-cycle}
+use Rattle.universal_cycle.proofs.Rings1.{joined1}
+use Rattle.universal_cycle.proofs.Rings23.{joined, joined2, joined3}
+
+-- What agrees with a step is a step: the rule's change of the first symbol and a rotation by one.
+pub kept-by : {P : List ℕ → Type 0} (rule : List ℕ → ℕ) {depth : List ℕ → ℕ} {Exit : List ℕ → Type 0} {root : List ℕ} →
+    Joined P turn (change rule) depth Exit root → (w : List ℕ) → 0 < length w → P w → P (step rule w)
+kept-by {P} rule J w pos p = subst P (turn-change rule w pos) (J .ρ-in _ (J .τ-in w p))
+
+steps : (rule : List ℕ → ℕ) {P : List ℕ → Type 0} {depth : List ℕ → ℕ} {Exit : List ℕ → Type 0} {root : List ℕ} →
+    Joined P turn (change rule) depth Exit root → ((w : List ℕ) → P w → 0 < length w) →
+    {N : ℕ} {place : List ℕ → ℕ} {item : ℕ → List ℕ} → Numbering P N place item → (s : List ℕ) → P s → Tour P (step rule) N s
+steps rule joined long L s p = same-tour
+    (λ w q. joined .ρ-in (change rule w) (joined .τ-in w q))
+    (λ w q. turn-change rule w (long w q))
+    p
+    (one-cycle joined L s p)
+
+-- The rules are 1, 2 and 3.
+pub by-rule : (P : ℕ → Type 0) → P 1 → P 2 → P 3 → (r : ℕ) → isRule r ≡ true → P r
+unfolding isRule
+by-rule P p q s r t =
+    let (lo, hi) = says-and (says-itself (leb 1 r)) (says-itself (leb r 3)) .to t in
+    elim (ℕ-discrete r 1) [
+      | yes e ↦ rw e p
+      | no x ↦ elim (ℕ-discrete r 2) [
+        | yes e ↦ rw e q
+        | no y ↦ let e : r ≡ 3 = omega (arith, leb-true 1 r lo, leb-true r 3 hi) in rw e s
+      ]
+    ]
+
+-- A step of a rule keeps the weak orders in its form.
+pub step-kept : (r : ℕ) → isRule r ≡ true → (n : ℕ) → 1 ≤ n → (w : List ℕ) → WeakOrder n r w → WeakOrder n r (step (ruleOf r) w)
+unfolding ruleOf inForm
+step-kept r t zero pos = absurd (omega arith)
+step-kept r t (suc m) pos = by-rule (λ r. (w : List ℕ) → WeakOrder (suc m) r w → WeakOrder (suc m) r (step (ruleOf r) w))
+    (λ w p. kept-by rule1 (joined1 m) w (omega arith) p)
+    (λ w p. kept-by rule2 (joined2 m) w (omega arith) p)
+    (λ w p. kept-by rule3 (joined3 m) w (omega arith) p)
+    r t
+
+-- The theorem.
+pub universal-cycle : UniversalCycle
+unfolding ruleOf inForm
+universal-cycle r t zero pos = absurd (omega arith)
+universal-cycle r t (suc m) pos = by-rule
+    (λ r. (s : List ℕ) → WeakOrder (suc m) r s → Tour (WeakOrder (suc m) r) (step (ruleOf r)) (a (suc m)) s)
+    (steps rule1 (joined1 m) (λ w p. omega arith) (ranks-numbered (suc m)))
+    (steps rule2 (joined2 m) (λ w p. omega arith) (heights-numbered (suc m)))
+    (steps rule3 (joined3 m) (λ w p. omega arith) (heights-numbered (suc m)))
+    r t

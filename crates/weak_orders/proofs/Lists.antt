@@ -1,0 +1,192 @@
+-- Laws of lists: members, `all`, `count`, `range`, sums over a list, the last element that fails a test. Assumes nothing.
+use mathlib.Core.Bool.{Bool, true, false}
+use mathlib.Core.List.{List, [], _∷_, _++_, map, List·Memᴰ·head as head, List·Memᴰ·tail as tail, Memᴰ·append-left, Memᴰ·append-right}
+use mathlib.Core.List.{List·Memᴰ·append-cases, List·Memᴰ·eq-of-singleton, head-eq-of-cons-eq, tail-eq-of-cons-eq}
+use mathlib.Core.Logic.{⊎-elim}
+use mathlib.Core.Path.{_≡_, refl, sym, ap, ap₂, subst, _∙_}
+use Prim.Native.Nat.{ℕ, zero, suc, _+_, _*_, _≤_, _<_}
+use native.Mathlib.Nat.{suc-mul}
+use native.Mathlib.Omega.{arith}
+use native.Mathlib.Decide.{decLt}
+use lib.Dec.{eqb}
+use lib.ListN.{length, getD, take, drop, take-append-drop, replicate, length-append, List·getD-append}
+use lib.Seq.{getD-at}
+use Rattle.weak_orders.specs.Window.{all, count, range}
+use Rattle.weak_orders.proofs.Tests.{_∈_, here, there, nowhere, split-mem, by-test, bit, bit≤1, Says, says?, says-as, says-itself, says-eq, says-all}
+
+-- ---- members
+
+pub mem-replicate : (n a x : ℕ) → x ∈ replicate n a → x ≡ a
+mem-replicate zero a x m = nowhere m
+mem-replicate (suc n) a x m = split-mem (λ e. e) (mem-replicate n a x) m
+
+pub mem-take : (k : ℕ) (l : List ℕ) (v : ℕ) → v ∈ take k l → v ∈ l
+mem-take k l v m = rw take-append-drop at (Memᴰ·append-left (drop k l) m)
+
+-- an element has an index, and an index an element
+pub getD-in : {A : Type 0} (xs : List A) (i : ℕ) (d : A) → i < length xs → getD xs i d ∈ xs
+getD-in [] i d h = absurd (omega arith)
+getD-in (x ∷ xs) zero d h = here
+getD-in (x ∷ xs) (suc i) d h = there (getD-in xs i d (omega arith))
+
+pub in-getD : {A : Type 0} {xs : List A} {x : A} (d : A) → x ∈ xs → (i : ℕ) × (i < length xs) × (getD xs i d ≡ x)
+in-getD d (head e) = (0, omega arith, sym e)
+in-getD d (tail m) = let (i, l, e) = in-getD d m in (suc i, omega arith, e)
+
+-- a list of one symbol only
+pub says-same : (a x : ℕ) → Says (eqb a x) (x ≡ a)
+says-same a x = says-as (says-eq a x) sym sym
+
+pub all-same : (a : ℕ) (w : List ℕ) → ((x : ℕ) → x ∈ w → x ≡ a) → w ≡ replicate (length w) a
+all-same a [] h = refl
+all-same a (x ∷ b) h = ap₂ _∷_ (h x here) (all-same a b (λ y m. h y (there m)))
+
+-- maps that agree on the elements
+pub map-cong : {A B : Type 0} (f g : A → B) (xs : List A) → ((x : A) → x ∈ xs → f x ≡ g x) → map f xs ≡ map g xs
+map-cong f g [] h = refl
+map-cong f g (x ∷ xs) h = cc (h x here, map-cong f g xs (λ y m. h y (there m)))
+
+pub map-map : {A B C : Type 0} (g : B → C) (f : A → B) (xs : List A) → map g (map f xs) ≡ map (λ x. g (f x)) xs
+map-map g f [] = refl
+map-map g f (x ∷ xs) = cc (map-map g f xs)
+
+pub map-same : {A : Type 0} (xs : List A) → map (λ x. x) xs ≡ xs
+map-same [] = refl
+map-same (x ∷ xs) = cc (map-same xs)
+
+-- ---- `count` and `all`
+
+module _ {A : Type 0} (p : A → Bool) where
+  pub count-nil : count p [] ≡ 0
+  unfolding count
+  count-nil = refl
+
+  pub count-cons : (x : A) (xs : List A) → count p (x ∷ xs) ≡ bit (p x) + count p xs
+  unfolding count
+  count-cons x xs = by-test (p x) (λ e. rw e (omega arith)) (λ e. rw e (omega arith))
+
+  pub count-append : (xs ys : List A) → count p (xs ++ ys) ≡ count p xs + count p ys
+  count-append [] ys = omega (arith, count-nil)
+  count-append (x ∷ xs) ys = omega (arith, count-cons x (xs ++ ys), count-cons x xs, count-append xs ys)
+
+  pub count-le-length : (xs : List A) → count p xs ≤ length xs
+  count-le-length [] = omega (arith, count-nil)
+  count-le-length (x ∷ xs) = omega (arith, count-cons x xs, bit≤1 (p x), count-le-length xs)
+
+  pub all-in : {xs : List A} {x : A} → all p xs ≡ true → x ∈ xs → p x ≡ true
+  all-in {xs} {x} h m = says-all (λ y. says-itself (p y)) xs .to h x m
+
+  pub all-of : (xs : List A) → ((x : A) → x ∈ xs → p x ≡ true) → all p xs ≡ true
+  all-of xs h = says-all (λ y. says-itself (p y)) xs .of h
+
+-- what passes one test passes the other
+pub count-mono : {A : Type 0} (p q : A → Bool) (xs : List A) → ((x : A) → x ∈ xs → p x ≡ true → q x ≡ true) → count p xs ≤ count q xs
+count-mono p q [] h = omega (arith, count-nil p, count-nil q)
+count-mono p q (x ∷ xs) h =
+    let up : bit (p x) ≤ bit (q x) = by-test (p x) (λ e. rw (e, h x here e) (omega arith)) (λ e. rw e (omega arith)) in
+    omega (arith, count-cons p x xs, count-cons q x xs, count-mono p q xs (λ y m. h y (there m)))
+
+pub count-cong : {A : Type 0} (p q : A → Bool) (xs : List A) → ((x : A) → x ∈ xs → p x ≡ q x) → count p xs ≡ count q xs
+count-cong p q xs h = omega (arith, count-mono p q xs (λ x m e. sym (h x m) ∙ e), count-mono q p xs (λ x m e. h x m ∙ e))
+
+pub count-map : {A B : Type 0} (p : B → Bool) (f : A → B) (xs : List A) → count p (map f xs) ≡ count (λ x. p (f x)) xs
+count-map p f [] = omega (arith, count-nil p, count-nil (λ x. p (f x)))
+count-map p f (x ∷ xs) = omega (arith, count-cons p (f x) (map f xs), count-cons (λ x. p (f x)) x xs, count-map p f xs)
+
+module _ {A : Type 0} (p : A → Bool) where
+  pub count-none : (xs : List A) → ((x : A) → x ∈ xs → p x ≡ false) → count p xs ≡ 0
+  count-none [] h = count-nil p
+  count-none (x ∷ xs) h =
+      let e : bit (p x) ≡ 0 = rw (h x here) in
+      omega (arith, count-cons p x xs, count-none xs (λ y m. h y (there m)))
+
+  pub count-pos : {xs : List A} {x : A} → x ∈ xs → p x ≡ true → 0 < count p xs
+  count-pos (head {x = y} {xs = ys} e) t =
+      let e : bit (p y) ≡ 1 = rw (← e, t) in
+      omega (arith, count-cons p y ys)
+  count-pos (tail {x = y} {xs = ys} m) t = omega (arith, count-cons p y ys, count-pos m t)
+
+  pub count-find : (xs : List A) → 0 < count p xs → (x : A) × (x ∈ xs) × (p x ≡ true)
+  unfolding count
+  count-find [] h = absurd (omega arith)
+  count-find (x ∷ xs) h = by-test (p x)
+      (λ e. (x, here, e))
+      (λ e. let (y, m, t) = count-find xs (rw e at h) in (y, there m, t))
+
+-- ---- `range`
+
+pub in-range : (n v : ℕ) → v < n → v ∈ range n
+unfolding range
+in-range zero v h = absurd (omega arith)
+in-range (suc n) v h = elim (decLt v n) [
+  | yes l ↦ Memᴰ·append-left (n ∷ []) (in-range n v l)
+  | no l ↦ Memᴰ·append-right (range n) (head (omega arith))
+]
+
+pub of-range : (n : ℕ) {v : ℕ} → v ∈ range n → v < n
+unfolding range
+of-range zero m = nowhere m
+of-range (suc n) m = ⊎-elim
+    (λ m. omega (arith, of-range n m))
+    (λ m. omega (arith, List·Memᴰ·eq-of-singleton m))
+    (List·Memᴰ·append-cases (range n) m)
+
+pub length-range : (n : ℕ) → length (range n) ≡ n
+unfolding range
+length-range zero = refl
+length-range (suc n) = omega (arith, length-append (range n) (n ∷ []), length-range n)
+
+pub getD-range : (n j : ℕ) → j < n → getD (range n) j 0 ≡ j
+unfolding range
+getD-range zero j lt = absurd (omega arith)
+getD-range (suc n) j lt = elim (decLt j n) [
+  | yes l ↦ List·getD-append (range n) (n ∷ []) 0 j (omega (arith, length-range n)) ∙ getD-range n j l
+  | no l ↦ getD-at (range n) n [] 0 j (omega (arith, length-range n)) ∙ omega arith
+]
+
+pub count-range : (p : ℕ → Bool) (n : ℕ) → count p (range (suc n)) ≡ count p (range n) + bit (p n)
+unfolding range
+count-range p n = omega (arith, count-append p (range n) (n ∷ []), count-cons p n [], count-nil p)
+
+pub says-below : {p : ℕ → Bool} {A : ℕ → Type 0} → ((x : ℕ) → Says (p x) (A x)) → (n : ℕ) →
+    Says (all p (range n)) ((x : ℕ) → x < n → A x)
+says-below s n = says-as (says-all s (range n)) (λ h x lt. h x (in-range n x lt)) (λ h x m. h x (of-range n m))
+
+-- ---- the sum of f x over the elements of a list
+
+unfoldable pub total : (ℕ → ℕ) → List ℕ → ℕ
+total f [] = 0
+total f (x ∷ l) = f x + total f l
+
+pub total-append : (f : ℕ → ℕ) (l k : List ℕ) → total f (l ++ k) ≡ total f l + total f k
+unfolding total
+total-append f [] k = omega arith
+total-append f (x ∷ l) k = omega (arith, total-append f l k)
+
+pub total-le : (f : ℕ → ℕ) (h : ℕ) (l : List ℕ) → ((x : ℕ) → x ∈ l → f x ≤ h) → total f l ≤ length l * h
+unfolding total
+total-le f h [] le = omega arith
+total-le f h (x ∷ l) le = rw (suc-mul (length l) h) (omega (arith, le x here, total-le f h l (λ y m. le y (there m))))
+
+-- ---- the last element that fails a test, where one does; there is but one such place
+
+pub last-fail : {X : Type 0} {p : X → Bool} {A : X → Type 0} → ((x : X) → Says (p x) (A x)) →
+    (l : List X) → ¬ ((x : X) → x ∈ l → A x) →
+    (k : List X) × (s : X) × (r : List X) × (l ≡ k ++ (s ∷ r)) × (¬ A s) × ((x : X) → x ∈ r → A x)
+last-fail d [] n = absurd (n (λ x m. nowhere m))
+last-fail {A = A} d (x ∷ l) n = elim (says? (says-all d l)) [
+  | yes h ↦ ([], x, l, refl, (λ a. n (λ y m. split-mem (λ e. subst A (sym e) a) (h y) m)), h)
+  | no f ↦ let (k, s, r, e, g, h) = last-fail d l f in (x ∷ k, s, r, ap (λ l. x ∷ l) e, g, h)
+]
+
+pub last-unique : {A : Type 0} (Q : A → Type 0) (k : List A) (s : A) (r k′ : List A) (s′ : A) (r′ : List A) →
+    ¬ Q s → ((x : A) → x ∈ r → Q x) → ¬ Q s′ → ((x : A) → x ∈ r′ → Q x) → k ++ (s ∷ r) ≡ k′ ++ (s′ ∷ r′) →
+    (k ≡ k′) × (s ∷ r ≡ s′ ∷ r′)
+last-unique Q [] s r [] s′ r′ f h f′ h′ e = (refl, e)
+last-unique Q [] s r (x ∷ k′) s′ r′ f h f′ h′ e =
+    absurd (f′ (h s′ (rw (tail-eq-of-cons-eq e) (Memᴰ·append-right k′ here))))
+last-unique Q (x ∷ k) s r [] s′ r′ f h f′ h′ e =
+    absurd (f (h′ s (rw (← tail-eq-of-cons-eq e) (Memᴰ·append-right k here))))
+last-unique Q (x ∷ k) s r (x′ ∷ k′) s′ r′ f h f′ h′ e =
+    let (e₁, e₂) = last-unique Q k s r k′ s′ r′ f h f′ h′ (tail-eq-of-cons-eq e) in
+    (ap₂ _∷_ (head-eq-of-cons-eq e) e₁, e₂)

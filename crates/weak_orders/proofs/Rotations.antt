@@ -1,0 +1,231 @@
+-- The rotations of a window: what a rotation keeps, and the least and the greatest of them. Document 01 calls all rotations of one
+-- window its ring. Assumes nothing.
+use mathlib.Core.Bool.{Bool, true}
+use mathlib.Core.List.{List, [], _∷_, _++_, append-assoc, append-nil, List·Memᴰ·head, Memᴰ·append-right, head-eq-of-cons-eq, tail-eq-of-cons-eq}
+use mathlib.Core.List.{Memᴰ·map, Memᴰ·of-map, Memᴰ·cast}
+use mathlib.Core.Logic.{_⊎_, _↔_}
+use mathlib.Core.Path.{_≡_, refl, sym, ap, _∙_}
+use Prim.Native.Nat.{ℕ, zero, suc, _+_, _≤_, _<_}
+use native.Mathlib.Omega.{arith}
+use lib.ListN.{length, take, drop, getD, length-append, take-append-drop, length-map, List·getD-map}
+use lib.Seq.{take-suc, drop-cons, take-length, drop-length, take-append-seam, drop-append-seam}
+use Rattle.weak_orders.specs.Order.{lexLe}
+use Rattle.weak_orders.specs.Rotation.{rotation, rotations, isLeast, isGreatest, firstIndex, start}
+use Rattle.weak_orders.specs.Window.{all, count, range, iter, num, below}
+use Rattle.weak_orders.proofs.Iterates.{_⇝⟨_⟩_, iter-add, along, stay, on, _⨟_, first-step, back}
+use Rattle.weak_orders.proofs.Lists.{count-append, in-range, length-range, getD-range, total, total-append}
+use Rattle.weak_orders.proofs.Orders.{lex-trans, lex-total, least-member}
+use Rattle.weak_orders.proofs.Symbols.{num-mem}
+use Rattle.weak_orders.proofs.Tests.{_∈_, there, nowhere, split-mem, true?, not-true→false, Says, says-as, says-itself, says-all}
+
+-- Rotation by one.
+unfoldable pub turn : List ℕ → List ℕ
+unfolding rotation
+turn w = rotation w 1
+
+infix 4 _⟳_
+-- `v` is a rotation of `w`.
+abbrev pub _⟳_ : List ℕ → List ℕ → Type 0
+w ⟳ v = w ⇝⟨ turn ⟩ v
+
+pub turned : {w : List ℕ} → w ⟳ turn w
+turned = on (stay refl)
+
+-- The two parts of a window change places by turning.
+pub swing : (p q : List ℕ) → p ++ q ⟳ q ++ p
+unfolding turn
+swing [] q = stay (sym (append-nil q))
+swing (x ∷ p) q =
+    let h : (p ++ q) ++ (x ∷ []) ⟳ q ++ (x ∷ p) = rw append-assoc (rw (append-assoc q (x ∷ []) p) at (swing p (q ++ (x ∷ [])))) in
+    first-step h
+
+pub round : (w : List ℕ) → turn w ⟳ w
+unfolding turn
+round [] = stay refl
+round (x ∷ b) = swing b (x ∷ [])
+
+pub ⟳-sym : {w v : List ℕ} → w ⟳ v → v ⟳ w
+⟳-sym {w} c = back (round w) c
+
+-- And every rotation comes about so.
+pub data Split (w v : List ℕ) : Type 0 where
+  parts : (p : List ℕ) (y : ℕ) (q : List ℕ) → w ≡ p ++ (y ∷ q) → v ≡ (y ∷ q) ++ p → Split w v
+
+split-turn : (x : ℕ) (b v : List ℕ) → Split (x ∷ b) v → Split (x ∷ b) (turn v)
+unfolding turn
+split-turn x b v (parts p y [] e e′) = parts [] x b refl (rw e′ (rw append-nil (sym e)))
+split-turn x b v (parts p y (z ∷ q) e e′) = parts (p ++ (y ∷ [])) z q (rw append-assoc e) (rw e′ (append-assoc (z ∷ q) p (y ∷ [])))
+
+pub split : (x : ℕ) (b : List ℕ) {v : List ℕ} → x ∷ b ⟳ v → Split (x ∷ b) v
+split x b c = along (Split (x ∷ b)) (split-turn x b) c (parts [] x b refl (sym (append-nil (x ∷ b))))
+
+-- A rotation that begins with a symbol of which there is but one.
+pub front-once : (x : ℕ) (b d : List ℕ) → ¬ (x ∈ b) → x ∷ b ⟳ x ∷ d → x ∷ d ≡ x ∷ b
+front-once x b d once c = at (split x b c)
+  where
+    at : Split (x ∷ b) (x ∷ d) → x ∷ d ≡ x ∷ b
+    at (parts [] y q e e′) = e′ ∙ append-nil (y ∷ q) ∙ sym e
+    at (parts (z ∷ p) y q e e′) =
+        absurd (once (rw (tail-eq-of-cons-eq e) (Memᴰ·append-right p (List·Memᴰ·head (head-eq-of-cons-eq e′)))))
+
+-- What does not change when the two parts of a window change places is the same for the whole ring.
+pub ring-keeps : {B : Type 0} (f : List ℕ → B) → ((p q : List ℕ) → f (p ++ q) ≡ f (q ++ p)) → {w v : List ℕ} → w ⟳ v → f v ≡ f w
+unfolding turn
+ring-keeps f h {w} c = along (λ v. f v ≡ f w) (λ v e. turned v ∙ e) c refl
+  where
+    turned : (v : List ℕ) → f (turn v) ≡ f v
+    turned [] = refl
+    turned (x ∷ b) = h b (x ∷ [])
+
+pub length-ring : {w v : List ℕ} → w ⟳ v → length v ≡ length w
+length-ring = ring-keeps length (λ p q. omega (arith, length-append p q, length-append q p))
+
+pub count-ring : (f : ℕ → Bool) {w v : List ℕ} → w ⟳ v → count f v ≡ count f w
+count-ring f = ring-keeps (count f) (λ p q. omega (arith, count-append f p q, count-append f q p))
+
+pub num-ring : {w v : List ℕ} → w ⟳ v → (x : ℕ) → num v x ≡ num w x
+unfolding num
+num-ring c x = count-ring _ c
+
+pub below-ring : {w v : List ℕ} → w ⟳ v → (x : ℕ) → below v x ≡ below w x
+unfolding below
+below-ring c x = count-ring _ c
+
+pub total-ring : (f : ℕ → ℕ) {w v : List ℕ} → w ⟳ v → total f v ≡ total f w
+total-ring f = ring-keeps (total f) (λ p q. omega (arith, total-append f p q, total-append f q p))
+
+pub mem-ring : {w v : List ℕ} → w ⟳ v → (x : ℕ) → x ∈ v → x ∈ w
+mem-ring {w} {v} c x m = num-mem w x .0 (omega (arith, num-ring c x, num-mem v x .1 m))
+
+-- Each symbol comes first in some rotation.
+pub to-front : (w : List ℕ) (y : ℕ) → y ∈ w → (b : List ℕ) × (w ⟳ y ∷ b)
+to-front w y m = let (p, q, e) = cut w y m in (q ++ p, stay e ⨟ swing p (y ∷ q))
+  where
+    cut : (w : List ℕ) (y : ℕ) → y ∈ w → (p : List ℕ) × (q : List ℕ) × (w ≡ p ++ (y ∷ q))
+    cut [] y m = nowhere m
+    cut (x ∷ b) y m = split-mem
+        (λ e. ([], b, ap (λ z. z ∷ b) (sym e)))
+        (λ m′. let (p, q, e) = cut b y m′ in (x ∷ p, q, ap (λ l. x ∷ l) e))
+        m
+
+-- The rotations that the definitions list are the ring.
+pub turned-rotation : (w : List ℕ) (i : ℕ) → w ⟳ rotation w i
+unfolding rotation
+turned-rotation w i = stay (sym (take-append-drop i w)) ⨟ swing (take i w) (drop i w)
+
+pub rotation-split : (p q : List ℕ) → rotation (p ++ q) (length p) ≡ q ++ p
+unfolding rotation
+rotation-split p q = rw (drop-append-seam, take-append-seam)
+
+pub index-of : (x : ℕ) (b : List ℕ) {v : List ℕ} → x ∷ b ⟳ v → (j : ℕ) × (j < length (x ∷ b)) × (rotation (x ∷ b) j ≡ v)
+index-of x b {v} c = of (split x b c)
+  where
+    of : Split (x ∷ b) v → (j : ℕ) × (j < length (x ∷ b)) × (rotation (x ∷ b) j ≡ v)
+    of (parts p y q e e′) = (
+      length p,
+      omega (arith, ap length e, length-append p (y ∷ q)),
+      ap (λ l. rotation l (length p)) e ∙ rotation-split p (y ∷ q) ∙ sym e′,
+    )
+
+pub mem-rotations : (x : ℕ) (b v : List ℕ) → (v ∈ rotations (x ∷ b)) ↔ (x ∷ b ⟳ v)
+unfolding rotations
+mem-rotations x b v = (
+  λ m. let (i, _, e) = Memᴰ·of-map (rotation (x ∷ b)) (range (length (x ∷ b))) m in turned-rotation (x ∷ b) i ⨟ stay e,
+  λ c. let (j, lt, e) = index-of x b c in Memᴰ·cast (sym e) (Memᴰ·map (rotation (x ∷ b)) (in-range (length (x ∷ b)) j lt)),
+)
+
+-- So what all of them are tested for is true of the ring.
+says-ring : {p : List ℕ → Bool} {A : List ℕ → Type 0} → ((v : List ℕ) → Says (p v) (A v)) →
+    (x : ℕ) (b : List ℕ) → Says (all p (rotations (x ∷ b))) ((v : List ℕ) → x ∷ b ⟳ v → A v)
+says-ring s x b = says-as (says-all s (rotations (x ∷ b))) (λ h v c. h v (mem-rotations x b v .1 c)) (λ h v m. h v (mem-rotations x b v .0 m))
+
+pub says-least : (x : ℕ) (b u : List ℕ) → Says (isLeast (x ∷ b) u) ((v : List ℕ) → x ∷ b ⟳ v → lexLe u v ≡ true)
+unfolding isLeast
+says-least x b u = says-ring (λ v. says-itself (lexLe u v)) x b
+
+pub says-greatest : (x : ℕ) (b u : List ℕ) → Says (isGreatest (x ∷ b) u) ((v : List ℕ) → x ∷ b ⟳ v → lexLe v u ≡ true)
+unfolding isGreatest
+says-greatest x b u = says-ring (λ v. says-itself (lexLe v u)) x b
+
+-- Each ring has a least and a greatest rotation.
+extreme : (le : List ℕ → List ℕ → Type 0) → ((u v : List ℕ) → le u v ⊎ le v u) →
+    ((u v w : List ℕ) → le u v → le v w → le u w) →
+    (x : ℕ) (b : List ℕ) → (m : List ℕ) × (x ∷ b ⟳ m) × ((v : List ℕ) → x ∷ b ⟳ v → le m v)
+extreme le total trans x b =
+    let (m, h, low) = least-member le total trans (x ∷ b) (rotations (x ∷ b)) in
+    (m, split-mem (λ e. stay (sym e)) (mem-rotations x b m .0) h, λ v c. low v (there (mem-rotations x b v .1 c)))
+
+pub least : (x : ℕ) (b : List ℕ) → (m : List ℕ) × (x ∷ b ⟳ m) × ((v : List ℕ) → x ∷ b ⟳ v → lexLe m v ≡ true)
+least = extreme (λ u v. (lexLe u v ≡ true)) lex-total lex-trans
+
+pub greatest : (x : ℕ) (b : List ℕ) → (m : List ℕ) × (x ∷ b ⟳ m) × ((v : List ℕ) → x ∷ b ⟳ v → lexLe v m ≡ true)
+greatest = extreme (λ u v. (lexLe v u ≡ true)) (λ u v. lex-total v u) (λ u v w a b. lex-trans w v u b a)
+
+-- `start`: the first of the indices from which the window is read as its least rotation.
+pub first-index : {A : Type 0} (f : A → Bool) (l : List A) (d : A) (j : ℕ) → j < length l → f (getD l j d) ≡ true →
+    (firstIndex f l ≤ j) × (f (getD l (firstIndex f l) d) ≡ true)
+unfolding firstIndex
+first-index f [] d j lt t = absurd (omega arith)
+first-index f (x ∷ l) d zero lt t = rw (t) (omega arith, t)
+first-index f (x ∷ l) d (suc j) lt t = elim (true? (f x)) [
+  | yes h ↦ rw (h) (omega arith, h)
+  | no h ↦ rw (not-true→false (f x) h) (let (le, t′) = first-index f l d j (omega arith) t in (omega arith, t′))
+]
+
+length-rotations : (w : List ℕ) → length (rotations w) ≡ length w
+unfolding rotations
+length-rotations w = length-map (range (length w)) (rotation w) ∙ length-range (length w)
+
+getD-rotations : (w : List ℕ) (j : ℕ) → j < length w → getD (rotations w) j (rotation w 0) ≡ rotation w j
+unfolding rotations
+getD-rotations w j lt = List·getD-map (rotation w) (range (length w)) j 0 ∙ ap (rotation w) (getD-range (length w) j lt)
+
+-- The parts before and behind `start`.
+pub record Start (w : List ℕ) (i : ℕ) : Type 0 where
+  pub inside : i < length w
+  pub lowest : (v : List ℕ) → w ⟳ v → lexLe (rotation w i) v ≡ true
+  pub first : (j : ℕ) → j < length w → ((v : List ℕ) → w ⟳ v → lexLe (rotation w j) v ≡ true) → i ≤ j
+
+pub start-first : (x : ℕ) (b : List ℕ) → (i : ℕ) × (start (x ∷ b) ≡ suc i) × Start (x ∷ b) i
+unfolding start
+start-first x b = (
+  i,
+  refl,
+  record {
+    inside = omega (arith, found .0);
+    lowest = says-least x b (rotation w i) .to (rw (getD-rotations w i (omega (arith, found .0))) at (found .1));
+    first = λ j lt low. index j lt (says-least x b (rotation w j) .of low) .0;
+  },
+)
+  where
+    w : List ℕ
+    w = x ∷ b
+
+    i : ℕ
+    i = firstIndex (isLeast w) (rotations w)
+
+    index : (j : ℕ) → j < length w → isLeast w (rotation w j) ≡ true → (i ≤ j) × (isLeast w (getD (rotations w) i (rotation w 0)) ≡ true)
+    index j lt t = first-index (isLeast w) (rotations w) (rotation w 0) j (rw (length-rotations w) lt) (rw (getD-rotations w j lt) t)
+
+    found : (i < length w) × (isLeast w (getD (rotations w) i (rotation w 0)) ≡ true)
+    found =
+        let (m, c, low) = least x b in
+        let (j, lt, e) = index-of x b c in
+        let (le, t) = index j lt (says-least x b (rotation w j) .of (rw e low)) in
+        (omega arith, t)
+
+-- Turning again and again gives the rotations, and in the end the window.
+pub iter-turn : (i : ℕ) (w : List ℕ) → i ≤ length w → iter turn i w ≡ rotation w i
+unfolding iter turn rotation
+iter-turn zero w le = sym (append-nil w)
+iter-turn (suc i) w le = rw (iter-turn i w (omega arith)) (rw (drop-cons w i 0, take-suc w i 0) (append-assoc (drop (suc i) w) (take i w) _))
+
+pub full-turn : (w : List ℕ) → iter turn (length w) w ≡ w
+unfolding rotation
+full-turn w = iter-turn (length w) w (omega arith) ∙ rw (drop-length, take-length)
+
+pub rotation-rotation : (w : List ℕ) (i j : ℕ) → j + i ≤ length w → rotation (rotation w i) j ≡ rotation w (j + i)
+rotation-rotation w i j le =
+    let e : iter turn i w ≡ rotation w i = iter-turn i w (omega arith) in
+    sym (iter-turn j (rotation w i) (omega (arith, length-ring (turned-rotation w i)))) ∙
+    rw (← e) (sym (iter-add turn j i w)) ∙ iter-turn (j + i) w le
