@@ -3,3 +3,5 @@ pub mod Singles
 pub mod SetR
 pub mod Rule1
 pub mod Rules23
+pub mod Comparison
+pub mod RotationSearch
