@@ -5,3 +5,5 @@ pub mod Rule1
 pub mod Rules23
 pub mod Comparison
 pub mod RotationSearch
+pub mod Scans
+pub mod Tables
