@@ -6,4 +6,7 @@ pub mod Rules23
 pub mod Comparison
 pub mod RotationSearch
 pub mod Scans
+pub mod Windows
 pub mod Tables
+pub mod Rule1Cases
+pub mod SetRTests

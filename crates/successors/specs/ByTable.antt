@@ -1,7 +1,7 @@
 -- What the scans of a window find, read off a table of counts: entry v of the table says how often v occurs.
 use mathlib.Core.Bool.{Bool, cond, _||_}
-use mathlib.Core.List.{List}
-use Prim.Native.Nat.{ℕ, zero, suc, _≤_, _<_}
+use mathlib.Core.List.{List, List·Memᴰ}
+use Prim.Native.Nat.{ℕ, zero, suc, _≤_}
 use lib.Dec.{eqb}
 use lib.ListN.{getD}
 
@@ -14,6 +14,6 @@ unfoldable pub largestBy : List ℕ → ℕ → ℕ
 largestBy t zero = 0
 largestBy t (suc v) = cond (eqb (getD t v 0) 0) (largestBy t v) v
 
--- no symbol of the first n is larger than m
-abbrev pub Low : List ℕ → ℕ → ℕ → Type 0
-Low w n m = (k : ℕ) → k < n → getD w k 0 ≤ m
+-- no symbol of l is larger than 16, so that a table of counts has an entry for each
+abbrev pub Low : List ℕ → Type 0
+Low l = (v : ℕ) → List·Memᴰ v l → v ≤ 16

@@ -10,8 +10,8 @@ use lib.Dec.{leb}
 use lib.ListN.{take, drop}
 use Rattle.weak_orders.specs.Window.{all}
 use Rattle.successors.proofs.Scans.{scan-passes, scan-fails, scan-ends}
-use Rattle.successors.proofs.none_above.Statement.{statement}
-use Rattle.successors.proofs.none_above.Tie as tie
+use Rattle.successors.proofs.height_rules.none_above.Statement.{statement}
+use Rattle.successors.proofs.height_rules.none_above.Tie as tie
 
 abbrev Inv-loop : tie.InvT-loop
 Inv-loop w n x i₀ i = all (λ v. leb v x) (drop 1 (take n w)) ≡ all (λ v. leb v x) (drop i (take n w))

@@ -10,8 +10,8 @@ use lib.Dec.{ltb}
 use lib.ListN.{length, take, drop, getD}
 use Rattle.weak_orders.specs.Window.{all}
 use Rattle.successors.proofs.Scans.{scan-passes, scan-fails, scan-ends}
-use Rattle.successors.proofs.has_below.Statement.{statement}
-use Rattle.successors.proofs.has_below.Tie as tie
+use Rattle.successors.proofs.height_rules.has_below.Statement.{statement}
+use Rattle.successors.proofs.height_rules.has_below.Tie as tie
 
 abbrev Inv-loop : tie.InvT-loop
 Inv-loop x t v₀ v = all (ltb 0) (take x t) ≡ all (ltb 0) (drop v (take x t))

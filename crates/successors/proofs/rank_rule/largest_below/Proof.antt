@@ -6,8 +6,8 @@ use native.Mathlib.Omega.{arith}
 use borrow.Author.Needs.{needs}
 use Rattle.successors.specs.ByTable.{largestBy}
 use Rattle.successors.proofs.Tables.{largestBy-here, largestBy-lower, largestBy-zero}
-use Rattle.successors.proofs.largest_below.Statement.{statement}
-use Rattle.successors.proofs.largest_below.Tie as tie
+use Rattle.successors.proofs.rank_rule.largest_below.Statement.{statement}
+use Rattle.successors.proofs.rank_rule.largest_below.Tie as tie
 
 abbrev Inv-loop : tie.InvT-loop
 Inv-loop v t p₀ p = (p ≤ v) × (largestBy t v ≡ largestBy t p)

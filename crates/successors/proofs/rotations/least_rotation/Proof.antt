@@ -11,8 +11,8 @@ use lib.Seq.{length-take-le}
 use Rattle.weak_orders.specs.Order.{lexLe}
 use Rattle.weak_orders.specs.Rotation.{rotation}
 use Rattle.successors.proofs.RotationSearch.{upward, First, first-one, first-stays, first-moves, least-start, not-before, is-before}
-use Rattle.successors.proofs.least_rotation.Statement.{statement}
-use Rattle.successors.proofs.least_rotation.Tie as tie
+use Rattle.successors.proofs.rotations.least_rotation.Statement.{statement}
+use Rattle.successors.proofs.rotations.least_rotation.Tie as tie
 
 abbrev Inv-loop : tie.InvT-loop
 Inv-loop n w least₀ j₀ least j = (j ≤ n) × First lexLe (take n w) least j

@@ -10,8 +10,8 @@ use lib.ListN.{length, take, drop}
 use Rattle.weak_orders.specs.Order.{lexLt}
 use Rattle.weak_orders.specs.Rotation.{rotation}
 use Rattle.successors.proofs.Comparison.{rotation-length, Front, front-less, front-greater, front-equal, lexLt-end}
-use Rattle.successors.proofs.precedes.Statement.{statement}
-use Rattle.successors.proofs.precedes.Tie as tie
+use Rattle.successors.proofs.rotations.precedes.Statement.{statement}
+use Rattle.successors.proofs.rotations.precedes.Tie as tie
 
 abbrev Inv-loop : tie.InvT-loop
 Inv-loop w n i j k₀ k =

@@ -9,8 +9,8 @@ use lib.ListN.{length, take}
 use lib.Seq.{length-take-le}
 use Rattle.weak_orders.specs.Rotation.{rotation}
 use Rattle.successors.proofs.RotationSearch.{lexGe, downward, First, first-one, first-stays, greatest-yes, greatest-no, not-before, is-before}
-use Rattle.successors.proofs.is_greatest.Statement.{statement}
-use Rattle.successors.proofs.is_greatest.Tie as tie
+use Rattle.successors.proofs.rotations.is_greatest.Statement.{statement}
+use Rattle.successors.proofs.rotations.is_greatest.Tie as tie
 
 abbrev Inv-loop : tie.InvT-loop
 Inv-loop n w j₀ j = (j ≤ n) × First lexGe (take n w) 0 j

@@ -10,10 +10,11 @@ use lib.ListN.{length, take, drop, getD}
 use mir.Val.{Fits}
 use mir.Syntax.{w8}
 use Rattle.weak_orders.specs.Window.{all}
+use Rattle.weak_orders.proofs.Parts.{at-part}
 use Rattle.successors.specs.ByTable.{singleBy}
 use Rattle.successors.proofs.Scans.{scan-passes, scan-fails, scan-ends}
-use Rattle.successors.proofs.all_single.Statement.{statement}
-use Rattle.successors.proofs.all_single.Tie as tie
+use Rattle.successors.proofs.rank_rule.all_single.Statement.{statement}
+use Rattle.successors.proofs.rank_rule.all_single.Tie as tie
 
 abbrev Inv-loop : tie.InvT-loop
 Inv-loop a b w t i₀ i = all (singleBy t) (drop a (take b w)) ≡ all (singleBy t) (drop i (take b w))
@@ -36,7 +37,10 @@ cast-v c =
     record { fits = omega (arith, h .fits) }
 
 array-read-if1 : tie.Need-array-read-if1 Inv-loop μ-loop
-array-read-if1 c = omega (arith, c .before .before .pre .1 (c .before .loop .i) (omega arith))
+array-read-if1 c =
+    let p = c .before in
+    let a = p .before .args in
+    omega (arith, p .before .pre .1 _ (at-part (a .t1) 0 (a .b) (fits (p .before)) (p .loop .i) (omega arith) (omega arith)))
 
 returns : tie.Need-returns Inv-loop μ-loop
 unfolding singleBy

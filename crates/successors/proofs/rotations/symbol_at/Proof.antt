@@ -2,8 +2,8 @@
 use denote.Ref.{now}
 use borrow.Author.Needs.{needs}
 use Rattle.successors.proofs.Comparison.{rotation-on, rotation-round}
-use Rattle.successors.proofs.symbol_at.Statement.{statement}
-use Rattle.successors.proofs.symbol_at.Tie as tie
+use Rattle.successors.proofs.rotations.symbol_at.Statement.{statement}
+use Rattle.successors.proofs.rotations.symbol_at.Tie as tie
 
 add-j : tie.Need-add-j
 add-j c = search needs
