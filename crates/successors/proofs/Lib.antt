@@ -10,3 +10,5 @@ pub mod Windows
 pub mod Tables
 pub mod Rule1Cases
 pub mod SetRTests
+pub mod RuleNumbers
+pub mod StepForm
