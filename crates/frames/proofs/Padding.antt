@@ -1,0 +1,43 @@
+-- A window in sixteen bytes, the unused ones zero. Assumes nothing.
+use mathlib.Core.Bool.{true}
+use mathlib.Core.List.{List, _++_}
+use mathlib.Core.Path.{_≡_, refl, sym, ap, _∙_}
+use Prim.Native.Nat.{ℕ, zero, suc, _-_, _≤_}
+use native.Mathlib.Omega.{arith}
+use lib.Dec.{eqb}
+use lib.ListN.{length, take, drop, replicate, length-drop, length-append, length-replicate, take-append-drop}
+use lib.Seq.{length-take-le, take-at, drop-at}
+use Rattle.weak_orders.specs.Window.{all, padded}
+use Rattle.weak_orders.proofs.Tests.{says-all}
+use Rattle.weak_orders.proofs.Lists.{says-same, all-same}
+use Rattle.frames.specs.Fields.{zeros}
+
+zeros-replicate : (m : ℕ) → zeros (replicate m 0) ≡ true
+unfolding zeros all
+zeros-replicate zero = refl
+zeros-replicate (suc m) = zeros-replicate m
+
+pub zeros-are : (w : List ℕ) → zeros w ≡ true → w ≡ replicate (length w) 0
+unfolding zeros
+zeros-are w z = all-same 0 w (says-all (says-same 0) w .to z)
+
+module _ (w : List ℕ) (n : ℕ) (e : length w ≡ n) where
+  pub take-padded : take n (padded w) ≡ w
+  unfolding padded
+  take-padded = take-at w _ n e
+
+  pub unused-padded : zeros (drop n (padded w)) ≡ true
+  unfolding padded
+  unused-padded = rw (drop-at w (replicate (16 - length w) 0) n e) (zeros-replicate (16 - length w))
+
+pub length-padded : (w : List ℕ) → length w ≤ 16 → length (padded w) ≡ 16
+unfolding padded
+length-padded w l = omega (arith, length-append w (replicate (16 - length w) 0), length-replicate {A = ℕ} (16 - length w) 0)
+
+-- sixteen bytes whose unused ones are zero are those of their first n
+pub padded-take : (w : List ℕ) (n : ℕ) → length w ≡ 16 → n ≤ 16 → zeros (drop n w) ≡ true → padded (take n w) ≡ w
+unfolding padded
+padded-take w n l h z =
+    let e : length (drop n w) ≡ 16 - length (take n w) = omega (arith, length-drop n w, length-take-le n w (omega arith)) in
+    let z′ : drop n w ≡ replicate (16 - length (take n w)) 0 = zeros-are (drop n w) z ∙ ap (λ k. replicate k 0) e in
+    ap (λ v. take n w ++ v) (sym z′) ∙ take-append-drop n w
