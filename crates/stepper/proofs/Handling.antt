@@ -101,13 +101,13 @@ pub inner : (R : Cause → Exchanged) (session : ℕ → Session) (accept : Sess
     ≡ cond (eqb k (c + 1) && leb k end || eqb k c && leb 1 k) (accept (session k)) (R (cond (eqb k (c + 1)) RoundFinished StepNumber))
 inner R session accept c k end le = elim (ℕ-discrete k (c + 1)) [
   | yes e ↦
-    let no-resend = ne-eqb k c (omega arith) in
-    let positive = ne-eqb k 0 (omega arith) in
-    elim (decLt c end) [
-      | yes l ↦ rw (eq-eqb k (c + 1) e, no-resend, positive, ne-eqb c end (omega arith), le-leb k end (omega arith))
-          (ap (λ i. accept (session i)) (sym e))
-      | no l ↦ rw (eq-eqb k (c + 1) e, no-resend, positive, eq-eqb c end (omega arith), lt-leb k end (omega arith))
-    ]
+      let no-resend = ne-eqb k c (omega arith) in
+      let positive = ne-eqb k 0 (omega arith) in
+      elim (decLt c end) [
+        | yes l ↦ rw (eq-eqb k (c + 1) e, no-resend, positive, ne-eqb c end (omega arith), le-leb k end (omega arith))
+            (ap (λ i. accept (session i)) (sym e))
+        | no l ↦ rw (eq-eqb k (c + 1) e, no-resend, positive, eq-eqb c end (omega arith), lt-leb k end (omega arith))
+      ]
   | no x ↦ elim (ℕ-discrete k c) [
     | yes e ↦ elim (decLt 0 k) [
       | yes l ↦ rw (ne-eqb k (c + 1) x, eq-eqb k c e, ne-eqb k 0 (omega arith), le-leb 1 k l) (ap (λ i. accept (session i)) (sym e))

@@ -1,2 +1,5 @@
 pub mod Handling
 pub mod Standing
+pub mod Counting
+pub mod TwoBenches
+pub mod Worked

@@ -107,7 +107,7 @@ pub record Request : Type 0 where
   pub frame : List ℕ
   pub buffer : List ℕ
 
-unfoldable pub arrival : Request → Arrival
+abbrev pub arrival : Request → Arrival
 arrival x = record { frame = x .frame; room = length (x .buffer) }
 
 -- what the frames of a list come to, each on the session that the one before left
@@ -184,7 +184,7 @@ numbersAfter c (suc m) = (c + 1) ∷ numbersAfter (c + 1) m
 
 -- the sessions left by those frames of a list that the count takes as the next step: right after each first acceptance
 unfoldable pub firsts : ℕ → ℕ → List Request → List Outcome → List Session
-unfolding isNext arrival
+unfolding isNext
 firsts end c [] outcomes = []
 firsts end c (x ∷ l) [] = []
 firsts end c (x ∷ l) (o ∷ outcomes) =
