@@ -5,17 +5,17 @@ use Prim.Native.Nat.{ℕ, _-_}
 use lib.IntN.{ℤ, pos}
 use lib.ListN.{length, getD, replicate}
 use Rattle.weak_orders.specs.Window.{different, padded}
-use Rattle.frames.specs.declared.Cause.{Cause}
-use Rattle.frames.specs.declared.Cause.the-variants.{ShortBuffer, FrameLength, FrameHeader, FrameKind, ReservedByte, WindowLength}
-use Rattle.frames.specs.declared.Cause.the-variants.{RuleNumber, NotWeakOrder, LevelSetting, NotBegun, StepNumber, RoundFinished}
-use Rattle.frames.specs.declared.Reply.{Reply}
-use Rattle.frames.specs.declared.Reply.the-variants.{Accepted, Refused}
-use Rattle.frames.specs.declared.Setting.{Setting}
+use Rattle.frames.specs.declared.answer.Cause.{Cause}
+use Rattle.frames.specs.declared.answer.Cause.the-variants.{ShortBuffer, FrameLength, FrameHeader, FrameKind, ReservedByte, WindowLength}
+use Rattle.frames.specs.declared.answer.Cause.the-variants.{RuleNumber, NotWeakOrder, LevelSetting, NotBegun, StepNumber, RoundFinished}
+use Rattle.frames.specs.declared.answer.Reply.{Reply}
+use Rattle.frames.specs.declared.answer.Reply.the-variants.{Accepted, Refused}
+use Rattle.frames.specs.declared.level.Setting.{Setting}
 use Rattle.frames.specs.Fields.{bytes32, bytes64, bits32}
 use Rattle.frames.specs.Level.{levelOf}
 
 -- the numbers of the table in "Turned down"
-unfoldable pub causeNumber : Cause → ℕ
+abbrev pub causeNumber : Cause → ℕ
 causeNumber ShortBuffer = 1
 causeNumber FrameLength = 2
 causeNumber FrameHeader = 3
@@ -41,7 +41,7 @@ wka1 = 87 ∷ 75 ∷ 65 ∷ 49 ∷ []
 -- Accepted: 0–3 WKA1; 4 zero; 5 symbol; 6 the number of different symbols in the window; 7 zero; 8–15 steps done;
 -- 16–19 level, signed; 20–23 zero; 24–39 the window, zero filled. Refused: WKA1, the number, 35 zeros.
 unfoldable pub answerBytes : Reply → List ℕ → ℕ → List ℕ
-unfolding causeNumber different padded bytes32 bytes64 bits32
+unfolding different padded
 answerBytes (Accepted symbol level) w done =
     wka1 ++ (0 ∷ symbol ∷ different w ∷ 0 ∷ []) ++ bytes64 done ++ bytes32 (bits32 level) ++ replicate 4 0 ++ padded w
 answerBytes (Refused cause) w done = wka1 ++ (causeNumber cause ∷ []) ++ replicate 35 0

@@ -28,28 +28,28 @@ sameBytes (x ∷ u) [] = false
 sameBytes (x ∷ u) (y ∷ v) = eqb x y && sameBytes u v
 
 -- the unsigned numbers of 16 and of 64 bits that stand at i
-unfoldable pub unsigned16 : List ℕ → ℕ → ℕ
+abbrev pub unsigned16 : List ℕ → ℕ → ℕ
 unsigned16 f i = byte f i + 256 * byte f (i + 1)
 
-unfoldable pub unsigned64 : List ℕ → ℕ → ℕ
+abbrev pub unsigned64 : List ℕ → ℕ → ℕ
 unsigned64 f i =
     byte f i + 256 * (byte f (i + 1) + 256 * (byte f (i + 2) + 256 * (byte f (i + 3)
     + 256 * (byte f (i + 4) + 256 * (byte f (i + 5) + 256 * (byte f (i + 6) + 256 * byte f (i + 7)))))))
 
 -- the signed number of 16 bits, in two's complement, that the unsigned x is
-unfoldable pub signed16 : ℕ → ℤ
+abbrev pub signed16 : ℕ → ℤ
 signed16 x = cond (ltb x 32768) (pos x) (negsuc (65535 - x))
 
 -- the unsigned number of 32 bits that a signed one is in two's complement
-unfoldable pub bits32 : ℤ → ℕ
+abbrev pub bits32 : ℤ → ℕ
 bits32 (pos n) = n
 bits32 (negsuc n) = 4294967295 - n
 
 -- the four bytes of a number of 32 bits, and the eight of one of 64
-unfoldable pub bytes32 : ℕ → List ℕ
+abbrev pub bytes32 : ℕ → List ℕ
 bytes32 x = (x % 256) ∷ (x / 256 % 256) ∷ (x / 65536 % 256) ∷ (x / 16777216) ∷ []
 
-unfoldable pub bytes64 : ℕ → List ℕ
+abbrev pub bytes64 : ℕ → List ℕ
 bytes64 x =
     (x % 256) ∷ (x / 256 % 256) ∷ (x / 65536 % 256) ∷ (x / 16777216 % 256) ∷ (x / 4294967296 % 256)
     ∷ (x / 1099511627776 % 256) ∷ (x / 281474976710656 % 256) ∷ (x / 72057594037927936) ∷ []

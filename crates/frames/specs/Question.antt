@@ -2,7 +2,7 @@
 use mathlib.Core.Bool.{Bool, _&&_}
 use mathlib.Core.List.{List, [], _∷_}
 use Prim.Native.Nat.{ℕ}
-use Rattle.frames.specs.declared.Setting.{Setting}
+use Rattle.frames.specs.declared.level.Setting.{Setting}
 use Rattle.frames.specs.Fields.{byte, part, zeros, sameBytes, unsigned16, unsigned64, signed16}
 
 -- 0–3: the letters WKO1
@@ -37,12 +37,10 @@ ruleIn f = byte f 6
 
 -- 8–15: the step number
 unfoldable pub numberIn : List ℕ → ℕ
-unfolding unsigned64
 numberIn f = unsigned64 f 8
 
 -- 16–17: top, signed; 18–19: spacing
 unfoldable pub settingIn : List ℕ → Setting
-unfolding unsigned16 signed16
 settingIn f = record { top = signed16 (unsigned16 f 16); spacing = unsigned16 f 18 }
 
 -- 24–39: the sixteen bytes of the start window

@@ -15,7 +15,7 @@ use Rattle.ranking.specs.Counts.{a}
 use Rattle.successors.specs.Rules.{ruleOf, inForm, isRule, step}
 use Rattle.universal_cycle.specs.Round.{Tour, WeakOrder}
 use Rattle.universal_cycle.proofs.Rounds.{universal-cycle}
-use Rattle.frames.specs.declared.Cause.the-variants.{ShortBuffer}
+use Rattle.frames.specs.declared.answer.Cause.the-variants.{ShortBuffer}
 use Rattle.frames.specs.Fields.{part, zeros}
 use Rattle.frames.specs.Level.{settingOk}
 use Rattle.frames.specs.Question.{isQuestion, kindIn, letterB, letterS, lengthIn, ruleIn, numberIn, settingIn, windowIn, reservedB, reservedS}

@@ -10,8 +10,8 @@ use lib.ListN.{length, take, drop, replicate, getElem?}
 use lib.Seq.{take-at, drop-at, take-length}
 use Rattle.weak_orders.specs.Window.{padded}
 use Rattle.weak_orders.proofs.Tests.{by-test}
-use Rattle.frames.specs.declared.Cause.{Cause}
-use Rattle.frames.specs.declared.Cause.the-variants.{ShortBuffer}
+use Rattle.frames.specs.declared.answer.Cause.{Cause}
+use Rattle.frames.specs.declared.answer.Cause.the-variants.{ShortBuffer}
 use Rattle.frames.specs.Fields.{bytes32, bytes64}
 use Rattle.frames.specs.Question.{kindIn, letterB, letterS, numberIn}
 use Rattle.frames.specs.Answer.{accepted, answerBytes, stepReply}

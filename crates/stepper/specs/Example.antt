@@ -6,11 +6,11 @@ use mathlib.Core.Path.{_≡_}
 use Prim.Native.Nat.{ℕ}
 use lib.IntN.{pos, negsuc}
 use lib.ListN.{take, set, replicate, getElem?}
-use Rattle.frames.specs.declared.Cause.{Cause}
-use Rattle.frames.specs.declared.Cause.the-variants.{ShortBuffer, FrameLength, FrameHeader, FrameKind, ReservedByte, WindowLength}
-use Rattle.frames.specs.declared.Cause.the-variants.{RuleNumber, NotWeakOrder, LevelSetting, NotBegun, StepNumber, RoundFinished}
-use Rattle.frames.specs.declared.Reply.{Reply}
-use Rattle.frames.specs.declared.Reply.the-variants.{Accepted, Refused}
+use Rattle.frames.specs.declared.answer.Cause.{Cause}
+use Rattle.frames.specs.declared.answer.Cause.the-variants.{ShortBuffer, FrameLength, FrameHeader, FrameKind, ReservedByte, WindowLength}
+use Rattle.frames.specs.declared.answer.Cause.the-variants.{RuleNumber, NotWeakOrder, LevelSetting, NotBegun, StepNumber, RoundFinished}
+use Rattle.frames.specs.declared.answer.Reply.{Reply}
+use Rattle.frames.specs.declared.answer.Reply.the-variants.{Accepted, Refused}
 use Rattle.frames.specs.Answer.{accepted, stateReply}
 use Rattle.stepper.specs.declared.Session.{Session}
 use Rattle.stepper.specs.Exchange.{fresh, Outcome, exchange}

@@ -10,10 +10,10 @@ use Rattle.weak_orders.specs.Window.{iter, isLength, padded}
 use Rattle.ranking.specs.Counts.{a}
 use Rattle.successors.specs.Rules.{ruleOf, isRule, step}
 use Rattle.universal_cycle.specs.Round.{Tour, WeakOrder}
-use Rattle.frames.specs.declared.Cause.{Cause}
-use Rattle.frames.specs.declared.Cause.the-variants.{ShortBuffer, FrameLength, FrameHeader, ReservedByte, StepNumber, RoundFinished}
-use Rattle.frames.specs.declared.Reply.{Reply}
-use Rattle.frames.specs.declared.Reply.the-variants.{Refused}
+use Rattle.frames.specs.declared.answer.Cause.{Cause}
+use Rattle.frames.specs.declared.answer.Cause.the-variants.{ShortBuffer, FrameLength, FrameHeader, ReservedByte, StepNumber, RoundFinished}
+use Rattle.frames.specs.declared.answer.Reply.{Reply}
+use Rattle.frames.specs.declared.answer.Reply.the-variants.{Refused}
 use Rattle.frames.specs.Level.{settingOk}
 use Rattle.frames.specs.Question.{isQuestion, kindIn, letterB, letterS, lengthIn, ruleIn, numberIn, settingIn, windowIn, reservedB, reservedS}
 use Rattle.frames.specs.Answer.{causeNumber, accepted, wka1, answerBytes, stepReply}

@@ -1,7 +1,7 @@
 // A session that steps through the weak orders of n, driven by frames of forty bytes.
 // Rests on frames, successors and ranking. Opens no device and keeps no state of its own: a session goes in and comes back.
-use frames::Reply;
-use frames::Setting;
+use frames::answer::Reply;
+use frames::level::Setting;
 
 // A session. Any values of the fields may be handed in; `has_begun` judges them.
 pub struct Session {
