@@ -9,7 +9,8 @@ use lib.Dec.{eqb}
 use lib.ListN.{length}
 use lib.Seq.{drop-cons}
 use Rattle.weak_orders.specs.Window.{all}
-use Rattle.weak_orders.proofs.Tests.{Says, says-as, says-and, says-eq}
+use Rattle.weak_orders.specs.Says.{Says}
+use Rattle.weak_orders.proofs.Tests.{says-as, says-and, says-eq}
 use Rattle.frames.specs.Fields.{byte, part, zeros, sameBytes}
 
 -- the bytes from i up to `end` are zero just if the first is, and those behind it

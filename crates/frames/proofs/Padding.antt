@@ -5,11 +5,12 @@ use mathlib.Core.Path.{_≡_, refl, sym, ap, _∙_}
 use Prim.Native.Nat.{ℕ, zero, suc, _+_, _-_, _≤_}
 use native.Mathlib.Omega.{arith}
 use lib.Dec.{eqb}
-use lib.ListN.{length, take, drop, drop-of-length-le, replicate, length-drop, length-append, length-replicate, take-append-drop}
-use lib.Seq.{length-take-le, take-length, take-at, drop-at}
+use lib.ListN.{length, take, drop, drop-of-length-le, replicate, length-drop, take-append-drop}
+use lib.Seq.{length-take-le, take-length}
 use Rattle.weak_orders.specs.Window.{all, padded}
 use Rattle.weak_orders.proofs.Tests.{says-all}
 use Rattle.weak_orders.proofs.Lists.{says-same, all-same}
+use Rattle.weak_orders.proofs.Padded.{drop-padded}
 use Rattle.frames.specs.Fields.{zeros}
 
 zeros-replicate : (m : ℕ) → zeros (replicate m 0) ≡ true
@@ -21,18 +22,8 @@ pub zeros-are : (w : List ℕ) → zeros w ≡ true → w ≡ replicate (length 
 unfolding zeros
 zeros-are w z = all-same 0 w (says-all (says-same 0) w .to z)
 
-module _ (w : List ℕ) (n : ℕ) (e : length w ≡ n) where
-  pub take-padded : take n (padded w) ≡ w
-  unfolding padded
-  take-padded = take-at w _ n e
-
-  pub unused-padded : zeros (drop n (padded w)) ≡ true
-  unfolding padded
-  unused-padded = rw (drop-at w (replicate (16 - length w) 0) n e) (zeros-replicate (16 - length w))
-
-pub length-padded : (w : List ℕ) → length w ≤ 16 → length (padded w) ≡ 16
-unfolding padded
-length-padded w l = omega (arith, length-append w (replicate (16 - length w) 0), length-replicate {A = ℕ} (16 - length w) 0)
+pub unused-padded : (w : List ℕ) (n : ℕ) → length w ≡ n → zeros (drop n (padded w)) ≡ true
+unused-padded w n e = ap zeros (drop-padded w n e) ∙ zeros-replicate (16 - n)
 
 -- sixteen bytes whose unused ones are zero are those of their first n
 pub padded-take : (w : List ℕ) (n : ℕ) → length w ≡ 16 → n ≤ 16 → zeros (drop n w) ≡ true → padded (take n w) ≡ w

@@ -3,48 +3,15 @@ ghost use mathlib.Core.List.{_++_, [], _∷_};
 ghost use mathlib.Core.Path.{_≡_};
 ghost use lib.ListN.{take, drop, replicate};
 ghost use Rattle.frames.specs.Fields.{bytes32, bytes64, bits32};
-ghost use Rattle.frames.specs.Answer.{causeNumber, wka1};
+ghost use Rattle.frames.specs.Answer.{wka1, answerBytes};
+ghost use Rattle.refusals.specs.Numbers.{causeNumber};
 use crate::field;
-
-// Why a frame is refused, in the order of document 01's table, 1 to 12.
-pub enum Cause {
-    ShortBuffer,
-    FrameLength,
-    FrameHeader,
-    FrameKind,
-    ReservedByte,
-    WindowLength,
-    RuleNumber,
-    NotWeakOrder,
-    LevelSetting,
-    NotBegun,
-    StepNumber,
-    RoundFinished,
-}
+use refusals::Cause;
 
 // What a frame is answered. A begin or a query frame has symbol and level 0.
 pub enum Reply {
     Accepted { symbol: u8, level: i32 },
     Refused(Cause),
-}
-
-pub fn cause_number(cause: Cause) -> u8
-    ensures { λ r. ⌜ r ≡ causeNumber cause ⌝ }
-{
-    match cause {
-        Cause::ShortBuffer => 1,
-        Cause::FrameLength => 2,
-        Cause::FrameHeader => 3,
-        Cause::FrameKind => 4,
-        Cause::ReservedByte => 5,
-        Cause::WindowLength => 6,
-        Cause::RuleNumber => 7,
-        Cause::NotWeakOrder => 8,
-        Cause::LevelSetting => 9,
-        Cause::NotBegun => 10,
-        Cause::StepNumber => 11,
-        Cause::RoundFinished => 12,
-    }
 }
 
 // An answer with WKA1 in its first four bytes.
@@ -92,6 +59,18 @@ fn refusal_bytes(cause: Cause) -> [u8; 40]
     ensures { λ r. ⌜ r ≡ wka1 ++ (causeNumber cause ∷ []) ++ replicate 35 0 ⌝ }
 {
     let mut a = [0u8; 40];
-    a[4] = cause_number(cause);
+    a[4] = refusals::number(cause);
     with_header(a)
+}
+
+pub fn answer_bytes(reply: Reply, different: u8, done: u64, window: [u8; 16]) -> [u8; 40]
+    ensures { λ r. ⌜ r ≡ answerBytes reply different done window ⌝ }
+{
+    match reply {
+        Reply::Accepted { symbol, level } => {
+            let fields = state_fields(symbol, different, done, field::bits_of(level));
+            with_header(with_window(fields, window))
+        }
+        Reply::Refused(cause) => refusal_bytes(cause),
+    }
 }

@@ -6,7 +6,8 @@ use mathlib.Core.Path.{_≡_, refl, sym, ap, _∙_}
 use Prim.Native.Nat.{ℕ, zero, suc, _+_, _≤_, _<_}
 use native.Mathlib.Omega.{arith}
 use lib.ListN.{length, take, getElem?}
-use Rattle.weak_orders.proofs.Tests.{Says, by-test, says-and, says-itself, says-eq}
+use Rattle.weak_orders.specs.Says.{Says}
+use Rattle.weak_orders.proofs.Tests.{by-test, says-and, says-itself, says-eq}
 use Rattle.frames.specs.Question.{numberIn}
 use Rattle.stepper.specs.TwoBenches.{Arrival, passes, isNext, isResend, accepts, counted, countFrom, Request, arrival}
 use Rattle.stepper.proofs.Standing.{says-le}

@@ -11,9 +11,9 @@ use borrow.Author.Tests.{ltb-true, ltb-false, lt-ltb, le-ltb, le-leb, lt-leb, eq
 use Rattle.weak_orders.specs.Window.{isLength}
 use Rattle.weak_orders.proofs.Tests.{by-test}
 use Rattle.successors.specs.Rules.{isRule}
-use Rattle.frames.specs.declared.answer.Cause.{Cause}
-use Rattle.frames.specs.declared.answer.Cause.the-variants.{ShortBuffer, FrameLength, FrameHeader, ReservedByte, WindowLength}
-use Rattle.frames.specs.declared.answer.Cause.the-variants.{RuleNumber, NotWeakOrder, LevelSetting, StepNumber, RoundFinished}
+use Rattle.refusals.specs.declared.Cause.{Cause}
+use Rattle.refusals.specs.declared.Cause.the-variants.{ShortBuffer, FrameLength, FrameHeader, ReservedByte, WindowLength}
+use Rattle.refusals.specs.declared.Cause.the-variants.{RuleNumber, NotWeakOrder, LevelSetting, StepNumber, RoundFinished}
 use Rattle.frames.specs.declared.answer.Reply.{Reply}
 use Rattle.frames.specs.declared.answer.Reply.the-variants.{Refused}
 use Rattle.frames.specs.Level.{settingOk}

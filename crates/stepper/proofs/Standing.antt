@@ -10,17 +10,19 @@ use lib.ListN.{length, take, drop, length-drop}
 use lib.Seq.{length-take-le}
 use borrow.Author.Tests.{leb-true, le-leb, lt-leb, lt-ltb, le-ltb}
 use Rattle.weak_orders.specs.Window.{iter, isLength, padded}
-use Rattle.weak_orders.proofs.Tests.{Says, says-and, says-itself, says-eq}
+use Rattle.weak_orders.specs.Says.{Says}
+use Rattle.weak_orders.proofs.Padded.{take-padded}
+use Rattle.weak_orders.proofs.Tests.{says-and, says-itself, says-eq}
 use Rattle.ranking.specs.Counts.{a}
 use Rattle.successors.specs.Rules.{ruleOf, inForm, isRule, step}
 use Rattle.universal_cycle.specs.Round.{Tour, WeakOrder}
 use Rattle.universal_cycle.proofs.Rounds.{universal-cycle}
-use Rattle.frames.specs.declared.answer.Cause.the-variants.{ShortBuffer}
+use Rattle.refusals.specs.declared.Cause.the-variants.{ShortBuffer}
 use Rattle.frames.specs.Fields.{part, zeros}
 use Rattle.frames.specs.Level.{settingOk}
 use Rattle.frames.specs.Question.{isQuestion, kindIn, letterB, letterS, lengthIn, ruleIn, numberIn, settingIn, windowIn, reservedB, reservedS}
 use Rattle.frames.specs.Answer.{accepted}
-use Rattle.frames.proofs.Padding.{take-padded, unused-padded, padded-take}
+use Rattle.frames.proofs.Padding.{unused-padded, padded-take}
 use Rattle.stepper.specs.Exchange.{windowOk, beginReply, hasBegun, refuse, roundIn, onward, stepped, stepOf, handle}
 use Rattle.stepper.specs.TwoBenches.{Arrival, passes, isNext, isResend, accepts, roundOf, causeAt, startOf, windowAfter, sessionAt, beginOk}
 use Rattle.stepper.proofs.Handling.{outer, inner}

@@ -9,13 +9,12 @@ use native.Mathlib.Decide.{decLt}
 use lib.ListN.{length, take, drop, replicate, getElem?}
 use lib.Seq.{take-at, drop-at, take-length}
 use Rattle.weak_orders.specs.Window.{padded}
+use Rattle.weak_orders.proofs.Padded.{length-padded}
 use Rattle.weak_orders.proofs.Tests.{by-test}
-use Rattle.frames.specs.declared.answer.Cause.{Cause}
-use Rattle.frames.specs.declared.answer.Cause.the-variants.{ShortBuffer}
-use Rattle.frames.specs.Fields.{bytes32, bytes64}
+use Rattle.refusals.specs.declared.Cause.{Cause}
+use Rattle.refusals.specs.declared.Cause.the-variants.{ShortBuffer}
 use Rattle.frames.specs.Question.{kindIn, letterB, letterS, numberIn}
 use Rattle.frames.specs.Answer.{accepted, answerBytes, stepReply}
-use Rattle.frames.proofs.Padding.{length-padded}
 use Rattle.stepper.specs.declared.Exchanged.{Exchanged}
 use Rattle.stepper.specs.declared.Session.{Session}
 use Rattle.stepper.specs.Exchange.{refuse, stepped, answerTo, Outcome, exchange}
@@ -76,7 +75,7 @@ module _ (g : List ℕ) (G : Good g) where
   answer-at k = rw (held g G k)
 
   answer-long : (k : ℕ) → length (answerAt g k) ≡ 40
-  unfolding answerAt replyAt stepReply answerBytes bytes32 bytes64
+  unfolding answerAt replyAt stepReply answerBytes
   answer-long k = omega (arith, length-padded (windowAfter g k) (omega (arith, standing g G k .0, G .high)))
 
   -- what an accepted step frame gets

@@ -6,9 +6,9 @@ use mathlib.Core.Path.{_≡_}
 use Prim.Native.Nat.{ℕ}
 use lib.IntN.{pos, negsuc}
 use lib.ListN.{take, set, replicate, getElem?}
-use Rattle.frames.specs.declared.answer.Cause.{Cause}
-use Rattle.frames.specs.declared.answer.Cause.the-variants.{ShortBuffer, FrameLength, FrameHeader, FrameKind, ReservedByte, WindowLength}
-use Rattle.frames.specs.declared.answer.Cause.the-variants.{RuleNumber, NotWeakOrder, LevelSetting, NotBegun, StepNumber, RoundFinished}
+use Rattle.refusals.specs.declared.Cause.{Cause}
+use Rattle.refusals.specs.declared.Cause.the-variants.{ShortBuffer, FrameLength, FrameHeader, FrameKind, ReservedByte, WindowLength}
+use Rattle.refusals.specs.declared.Cause.the-variants.{RuleNumber, NotWeakOrder, LevelSetting, NotBegun, StepNumber, RoundFinished}
 use Rattle.frames.specs.declared.answer.Reply.{Reply}
 use Rattle.frames.specs.declared.answer.Reply.the-variants.{Accepted, Refused}
 use Rattle.frames.specs.Answer.{accepted, stateReply}

@@ -5,12 +5,12 @@ use Prim.Native.Nat.{ℕ, _+_}
 use lib.Dec.{leb, ltb, eqb}
 use lib.IntN.{pos}
 use lib.ListN.{length, take, drop, replicate}
-use Rattle.weak_orders.specs.Window.{isLength, padded}
+use Rattle.weak_orders.specs.Window.{different, isLength, padded}
 use Rattle.ranking.specs.Counts.{a}
 use Rattle.successors.specs.Rules.{ruleOf, inForm, isRule, step}
-use Rattle.frames.specs.declared.answer.Cause.{Cause}
-use Rattle.frames.specs.declared.answer.Cause.the-variants.{ShortBuffer, FrameLength, FrameHeader, FrameKind, ReservedByte, WindowLength}
-use Rattle.frames.specs.declared.answer.Cause.the-variants.{RuleNumber, NotWeakOrder, LevelSetting, NotBegun, StepNumber, RoundFinished}
+use Rattle.refusals.specs.declared.Cause.{Cause}
+use Rattle.refusals.specs.declared.Cause.the-variants.{ShortBuffer, FrameLength, FrameHeader, FrameKind, ReservedByte, WindowLength}
+use Rattle.refusals.specs.declared.Cause.the-variants.{RuleNumber, NotWeakOrder, LevelSetting, NotBegun, StepNumber, RoundFinished}
 use Rattle.frames.specs.declared.answer.Reply.{Reply}
 use Rattle.frames.specs.declared.answer.Reply.the-variants.{Refused}
 use Rattle.frames.specs.Fields.{zeros}
@@ -107,10 +107,12 @@ handle s f =
     cond (eqb (kindIn f) letterQ) (cond (not (reservedQ f)) (refuse s ReservedByte) (queryOf s))
     (refuse s FrameKind)))))
 
--- the answer to a frame: the reply, with the window and the steps done that the frame left
+-- the answer to a frame: its reply, with the steps done and the window that it left, zero filled
 unfoldable pub answerTo : Exchanged → List ℕ
-unfolding answerBytes
-answerTo x = answerBytes (x .reply) (take (x .session .n) (x .session .window)) (x .session .done)
+unfolding answerBytes different padded
+answerTo x =
+    let w = take (x .session .n) (x .session .window) in
+    answerBytes (x .reply) (different w) (x .session .done) (padded w)
 
 -- the session and the reply, and the whole buffer after the frame
 abbrev pub Outcome : Type 0

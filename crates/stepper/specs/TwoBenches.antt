@@ -6,17 +6,18 @@ use mathlib.Core.Path.{_≡_}
 use Prim.Native.Nat.{ℕ, zero, suc, _+_, _≤_, _<_}
 use lib.Dec.{leb, ltb, eqb}
 use lib.ListN.{length, take, drop, replicate, getElem?}
-use Rattle.weak_orders.specs.Window.{iter, isLength, padded}
+use Rattle.weak_orders.specs.Window.{iter, different, isLength, padded}
 use Rattle.ranking.specs.Counts.{a}
 use Rattle.successors.specs.Rules.{ruleOf, isRule, step}
 use Rattle.universal_cycle.specs.Round.{Tour, WeakOrder}
-use Rattle.frames.specs.declared.answer.Cause.{Cause}
-use Rattle.frames.specs.declared.answer.Cause.the-variants.{ShortBuffer, FrameLength, FrameHeader, ReservedByte, StepNumber, RoundFinished}
+use Rattle.refusals.specs.Numbers.{causeNumber}
+use Rattle.refusals.specs.declared.Cause.{Cause}
+use Rattle.refusals.specs.declared.Cause.the-variants.{ShortBuffer, FrameLength, FrameHeader, ReservedByte, StepNumber, RoundFinished}
 use Rattle.frames.specs.declared.answer.Reply.{Reply}
 use Rattle.frames.specs.declared.answer.Reply.the-variants.{Refused}
 use Rattle.frames.specs.Level.{settingOk}
 use Rattle.frames.specs.Question.{isQuestion, kindIn, letterB, letterS, lengthIn, ruleIn, numberIn, settingIn, windowIn, reservedB, reservedS}
-use Rattle.frames.specs.Answer.{causeNumber, accepted, wka1, answerBytes, stepReply}
+use Rattle.frames.specs.Answer.{accepted, wka1, answerBytes, stepReply}
 use Rattle.stepper.specs.declared.Session.{Session}
 use Rattle.stepper.specs.Exchange.{windowOk, Outcome, exchange}
 
@@ -97,8 +98,8 @@ unfolding settingIn stepReply windowAfter
 replyAt g k = stepReply (ruleIn g) (settingIn g) (windowAfter g k)
 
 unfoldable pub answerAt : List ℕ → ℕ → List ℕ
-unfolding answerBytes replyAt windowAfter
-answerAt g k = answerBytes (replyAt g k) (windowAfter g k) k
+unfolding different padded answerBytes replyAt windowAfter
+answerAt g k = answerBytes (replyAt g k) (different (windowAfter g k)) k (padded (windowAfter g k))
 
 -- The two sessions (document 01's benches A and B).
 

@@ -3,8 +3,8 @@ use borrow.Author.Needs.{needs}
 use Rattle.frames.proofs.answer.refusal_bytes.Statement.{statement}
 use Rattle.frames.proofs.answer.refusal_bytes.Tie as tie
 
-cause-number-requires : tie.Need-cause-number-requires
-cause-number-requires c κs = search needs
+number-requires : tie.Need-number-requires
+number-requires c κs = search needs
 
 array-write-a : tie.Need-array-write-a
 array-write-a c = search needs
@@ -13,8 +13,8 @@ with-header-requires : tie.Need-with-header-requires
 with-header-requires c κs = search needs
 
 returns : tie.Need-returns
-returns c = rw (c .with-header .ensures, c .before .cause-number .ensures)
+returns c = rw (c .with-header .ensures, c .before .number .ensures)
 
 pub refusal-bytes-spec : {M : Type 1} → statement M
 refusal-bytes-spec =
-    tie.close (tie.spec cause-number-requires array-write-a with-header-requires returns)
+    tie.close (tie.spec number-requires array-write-a with-header-requires returns)

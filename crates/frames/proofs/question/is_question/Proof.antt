@@ -4,7 +4,8 @@ use native.Mathlib.Omega.{arith}
 use lib.ListN.{length, take}
 use lib.Seq.{length-take-le}
 use borrow.Author.Needs.{needs}
-use Rattle.weak_orders.proofs.Tests.{Says, same-test}
+use Rattle.weak_orders.specs.Says.{Says}
+use Rattle.weak_orders.proofs.Tests.{same-test}
 use Rattle.frames.specs.Fields.{part}
 use Rattle.frames.specs.Question.{wko1, isQuestion}
 use Rattle.frames.proofs.ByteTests.{says-same-bytes}
