@@ -1,0 +1,24 @@
+-- Parts of a window. Assumes nothing.
+use mathlib.Core.List.{List, [], _∷_, Memᴰ·append-right}
+use mathlib.Core.Path.{_≡_}
+use Prim.Native.Nat.{ℕ, _≤_, _<_}
+use native.Mathlib.Omega.{arith}
+use lib.ListN.{length, take, drop, take-append-drop}
+use lib.Seq.{take-take}
+use Rattle.weak_orders.specs.Rotation.{start}
+use Rattle.weak_orders.proofs.Lists.{mem-take}
+use Rattle.weak_orders.proofs.Rotations.{start-first}
+use Rattle.weak_orders.proofs.Tests.{_∈_}
+use Rattle.successors.specs.ByTable.{Low}
+
+-- a member of a part is a member of the whole
+pub mem-part : (a j : ℕ) (l : List ℕ) (v : ℕ) → v ∈ drop a (take j l) → v ∈ l
+mem-part a j l v m = mem-take j l v (rw take-append-drop at (Memᴰ·append-right (take a (take j l)) m))
+
+pub low-front : (w : List ℕ) (j n : ℕ) → j ≤ n → Low (take n w) → Low (take j w)
+low-front w j n le low v m = low v (mem-part 0 j (take n w) v (rw (take-take j n w le) m))
+
+-- `start` is an index of the window
+pub start-bounds : (w : List ℕ) → 0 < length w → (1 ≤ start w) × (start w ≤ length w)
+start-bounds [] lt = absurd (omega arith)
+start-bounds (x ∷ b) lt = let (i, e, s) = start-first x b in omega (arith, s .inside)
