@@ -10,7 +10,7 @@ use Rattle.weak_orders.specs.Says.{Says}
 use Rattle.weak_orders.proofs.Tests.{by-test, says-and, says-itself, says-eq}
 use Rattle.frames.specs.Question.{numberIn}
 use Rattle.stepper.specs.TwoBenches.{Arrival, passes, isNext, isResend, accepts, counted, countFrom, Request, arrival}
-use Rattle.stepper.proofs.Standing.{says-le}
+use Rattle.stepper.proofs.Begun.{says-le}
 
 -- The three things that the count can say of a step frame.
 pub data Verdict (end c : ℕ) (x : Arrival) : Type 0 where

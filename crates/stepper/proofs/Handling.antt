@@ -23,6 +23,7 @@ use Rattle.stepper.specs.declared.Exchanged.{Exchanged}
 use Rattle.stepper.specs.declared.Session.{Session}
 use Rattle.stepper.specs.Exchange.{windowOk, beginReply, refuse, roundIn, beginFrame, handle, answerTo, Outcome, exchange}
 use Rattle.stepper.specs.TwoBenches.{beginOk, BeginAccepted}
+use Rattle.stepper.proofs.Begun.{begin-judged}
 
 -- the outcome of a frame whose answer has room
 unfoldable pub written : Exchanged → List ℕ → Outcome
@@ -38,36 +39,28 @@ module _ (s : Session) (f buffer : List ℕ) where
   no-room l = rw (lt-ltb (length buffer) 40 l)
 
 -- Begin frames: accepted where no test fails, and then the session is the frame's.
-judged : Bool → Bool → Bool → Bool → Reply
-judged t₆ t₇ t₈ t₉ =
-    cond (not t₆) (Refused WindowLength) (
-    cond (not t₇) (Refused RuleNumber) (
-    cond (not t₈) (Refused NotWeakOrder) (
-    cond (not t₉) (Refused LevelSetting) stateReply)))
-
-begin-chain : (s r : Session) (t₂ t₃ t₅ t₆ t₇ t₈ t₉ : Bool) →
-    let reply = judged t₆ t₇ t₈ t₉ in
+begin-chain : (s r : Session) (reply : Reply) (t₂ t₃ t₅ : Bool) →
     let x =
     cond (not t₂) (refuse s FrameLength) (
     cond (not t₃) (refuse s FrameHeader) (
     cond (not t₅) (refuse s ReservedByte) (record { session = cond (accepted reply) r s; reply = reply })))
     in
-    (accepted (x .reply) ≡ (t₂ && (t₃ && (t₅ && (t₆ && (t₇ && (t₈ && t₉))))))) × (accepted (x .reply) ≡ true → x .session ≡ r)
-unfolding accepted judged
-begin-chain s r false t₃ t₅ t₆ t₇ t₈ t₉ = (refl, λ e. absurd (false≢true e))
-begin-chain s r true false t₅ t₆ t₇ t₈ t₉ = (refl, λ e. absurd (false≢true e))
-begin-chain s r true true false t₆ t₇ t₈ t₉ = (refl, λ e. absurd (false≢true e))
-begin-chain s r true true true false t₇ t₈ t₉ = (refl, λ e. absurd (false≢true e))
-begin-chain s r true true true true false t₈ t₉ = (refl, λ e. absurd (false≢true e))
-begin-chain s r true true true true true false t₉ = (refl, λ e. absurd (false≢true e))
-begin-chain s r true true true true true true false = (refl, λ e. absurd (false≢true e))
-begin-chain s r true true true true true true true = (refl, λ e. refl)
+    (accepted (x .reply) ≡ (t₂ && (t₃ && (t₅ && accepted reply)))) × (accepted (x .reply) ≡ true → x .session ≡ r)
+unfolding accepted
+begin-chain s r reply false t₃ t₅ = (refl, λ e. absurd (false≢true e))
+begin-chain s r reply true false t₅ = (refl, λ e. absurd (false≢true e))
+begin-chain s r reply true true false = (refl, λ e. absurd (false≢true e))
+begin-chain s r reply true true true = (refl, λ e. rw e)
 
 module _ (s : Session) (g : List ℕ) (kind : kindIn g ≡ letterB) where
   begin-handled : (accepted (handle s g .reply) ≡ beginOk g) × (accepted (handle s g .reply) ≡ true → handle s g .session ≡ roundIn g)
-  unfolding handle beginFrame beginOk beginReply judged roundIn
-  begin-handled = rw kind (begin-chain s (roundIn g) (eqb (length g) 40) (isQuestion g) (reservedB g)
-      (isLength (lengthIn g)) (isRule (ruleIn g)) (windowOk (lengthIn g) (ruleIn g) (windowIn g)) (settingOk (lengthIn g) (settingIn g)))
+  unfolding handle beginFrame beginOk roundIn
+  begin-handled = rw (kind, ← tests)
+      (begin-chain s (roundIn g) (beginReply (roundIn g)) (eqb (length g) 40) (isQuestion g) (reservedB g))
+    where
+      tests : accepted (beginReply (roundIn g))
+          ≡ (isLength (lengthIn g) && (isRule (ruleIn g) && (windowOk (lengthIn g) (ruleIn g) (windowIn g) && settingOk (lengthIn g) (settingIn g))))
+      tests = begin-judged (roundIn g)
 
   -- What an accepted begin frame leaves does not hang on the session.
   pub begin-taken : (buffer : List ℕ) → accepted (exchange s g buffer .0 .reply) ≡ true →

@@ -1,3 +1,4 @@
+pub mod Begun
 pub mod Handling
 pub mod Standing
 pub mod Counting

@@ -25,33 +25,22 @@ use Rattle.frames.specs.Answer.{accepted}
 use Rattle.frames.proofs.Padding.{unused-padded, padded-take}
 use Rattle.stepper.specs.Exchange.{windowOk, beginReply, hasBegun, refuse, roundIn, onward, stepped, stepOf, handle}
 use Rattle.stepper.specs.TwoBenches.{Arrival, passes, isNext, isResend, accepts, roundOf, causeAt, startOf, windowAfter, sessionAt, beginOk}
+use Rattle.stepper.proofs.Begun.{RoundOk, says-round, says-begun}
 use Rattle.stepper.proofs.Handling.{outer, inner}
-
-pub says-le : (m n : ℕ) → Says (leb m n) (m ≤ n)
-says-le m n = record { to = leb-true m n; of = le-leb m n }
 
 -- What an accepted begin frame is known by.
 pub record Good (g : List ℕ) : Type 0 where
   pub long : length g ≡ 40
-  pub low : 1 ≤ lengthIn g
-  pub high : lengthIn g ≤ 16
-  pub rule : isRule (ruleIn g) ≡ true
-  pub form : inForm (ruleIn g) (take (lengthIn g) (windowIn g)) ≡ true
-  pub unused : zeros (drop (lengthIn g) (windowIn g)) ≡ true
-  pub setting : settingOk (lengthIn g) (settingIn g) ≡ true
+  pub round : RoundOk (lengthIn g) (ruleIn g) (windowIn g) (settingIn g)
 
 pub good : (g : List ℕ) → beginOk g ≡ true → Good g
-unfolding beginOk isLength windowOk
+unfolding beginOk
 good g t =
-    let n = lengthIn g in
-    let says =
-    says-and (says-eq (length g) 40) (says-and (says-itself (isQuestion g)) (says-and (says-eq (kindIn g) letterB)
-    (says-and (says-itself (reservedB g)) (says-and (says-and (says-le 1 n) (says-le n 16)) (says-and (says-itself (isRule (ruleIn g)))
-    (says-and (says-and (says-itself (inForm (ruleIn g) (take n (windowIn g)))) (says-itself (zeros (drop n (windowIn g)))))
-    (says-itself (settingOk n (settingIn g)))))))))
+    let tests = says-and (says-eq (length g) 40) (says-and (says-itself (isQuestion g)) (says-and (says-eq (kindIn g) letterB)
+    (says-and (says-itself (reservedB g)) (says-round (lengthIn g) (ruleIn g) (windowIn g) (settingIn g)))))
     in
-    let (long, (q, (k, (z, ((low, high), (rule, ((form, unused), setting))))))) = says .to t in
-    record { long = long; low = low; high = high; rule = rule; form = form; unused = unused; setting = setting }
+    let (long, (header, (kind, (reserved, round)))) = tests .to t in
+    record { long = long; round = round }
 
 module _ (g : List ℕ) (G : Good g) where
   window-long : length (windowIn g) ≡ 16
@@ -60,11 +49,11 @@ module _ (g : List ℕ) (G : Good g) where
 
   start-order : WeakOrder (lengthIn g) (ruleIn g) (startOf g)
   unfolding startOf
-  start-order = (length-take-le (lengthIn g) (windowIn g) (omega (arith, window-long, G .high)), G .form)
+  start-order = (length-take-le (lengthIn g) (windowIn g) (omega (arith, window-long, G .round .high)), G .round .form)
 
   pub listing : Tour (WeakOrder (lengthIn g) (ruleIn g)) (step (ruleOf (ruleIn g))) (roundOf g) (startOf g)
   unfolding roundOf
-  listing = universal-cycle (ruleIn g) (G .rule) (lengthIn g) (G .low) (startOf g) start-order
+  listing = universal-cycle (ruleIn g) (G .round .known) (lengthIn g) (G .round .low) (startOf g) start-order
 
   pub standing : (k : ℕ) → WeakOrder (lengthIn g) (ruleIn g) (windowAfter g k)
   unfolding windowAfter
@@ -72,7 +61,7 @@ module _ (g : List ℕ) (G : Good g) where
 
   pub begin-at : roundIn g ≡ sessionAt g 0
   unfolding roundIn sessionAt windowAfter startOf iter
-  begin-at = rw (padded-take (windowIn g) (lengthIn g) window-long (G .high) (G .unused))
+  begin-at = rw (padded-take (windowIn g) (lengthIn g) window-long (G .round .high) (G .round .unused))
 
   pub held : (k : ℕ) → take (lengthIn g) (padded (windowAfter g k)) ≡ windowAfter g k
   held k = take-padded (windowAfter g k) (lengthIn g) (standing k .0)
@@ -82,17 +71,19 @@ module _ (g : List ℕ) (G : Good g) where
   onward-at k = rw (held k, add-one k)
 
   begun-at : (k : ℕ) → k ≤ roundOf g → hasBegun (sessionAt g k) ≡ true
-  unfolding hasBegun beginReply accepted isLength windowOk sessionAt roundOf
-  begun-at k l = rw (
-    le-leb 1 (lengthIn g) (G .low),
-    le-leb (lengthIn g) 16 (G .high),
-    G .rule,
-    held k,
-    standing k .1,
-    unused-padded (windowAfter g k) (lengthIn g) (standing k .0),
-    G .setting,
-    le-leb k (a (lengthIn g)) l,
-  )
+  unfolding sessionAt roundOf
+  begun-at k le = says-begun (sessionAt g k) .of (record {
+    flag = refl;
+    round = record {
+      low = G .round .low;
+      high = G .round .high;
+      known = G .round .known;
+      form = rw (held k) (standing k .1);
+      unused = unused-padded (windowAfter g k) (lengthIn g) (standing k .0);
+      levels = G .round .levels;
+    };
+    within = le;
+  })
 
   -- At the count c a step frame with room for its answer comes to what the count says.
   pub step-handled : (c : ℕ) → c ≤ roundOf g → (x : Arrival) → 40 ≤ x .room → kindIn (x .frame) ≡ letterS →

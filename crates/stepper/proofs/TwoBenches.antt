@@ -76,7 +76,7 @@ module _ (g : List ℕ) (G : Good g) where
 
   answer-long : (k : ℕ) → length (answerAt g k) ≡ 40
   unfolding answerAt replyAt stepReply answerBytes
-  answer-long k = omega (arith, length-padded (windowAfter g k) (omega (arith, standing g G k .0, G .high)))
+  answer-long k = omega (arith, length-padded (windowAfter g k) (omega (arith, standing g G k .0, G .round .high)))
 
   -- what an accepted step frame gets
   stepped-answered : (k : ℕ) (buffer : List ℕ) → Answered g k buffer (written (stepped (sessionAt g k)) buffer)
