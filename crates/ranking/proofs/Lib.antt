@@ -7,3 +7,4 @@ pub mod Sorted
 pub mod Strings
 pub mod Places
 pub mod WindowAt
+pub mod Tabled

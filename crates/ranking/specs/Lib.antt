@@ -1,3 +1,4 @@
 pub mod Counts
 pub mod Dictionary
 pub mod Numbering
+pub mod Tables
