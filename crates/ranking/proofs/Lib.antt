@@ -1,6 +1,6 @@
 pub mod Listing
 pub mod Sums
-pub mod Ways
+pub mod CountLaws
 pub mod Completions
 pub mod Size
 pub mod Sorted
@@ -8,3 +8,4 @@ pub mod Strings
 pub mod Places
 pub mod WindowAt
 pub mod Tabled
+pub mod Prefixes

@@ -17,7 +17,7 @@ use Rattle.weak_orders.proofs.Tests.{_∈_}
 use Rattle.ranking.specs.Counts.{sum, a}
 use Rattle.ranking.specs.Dictionary.{strings, heightWindows, place, windowAt}
 use Rattle.ranking.specs.Numbering.{Numbering}
-use Rattle.ranking.proofs.Completions.{in-strings, of-strings, count-strings, fillings, completions, heightWindows-length}
+use Rattle.ranking.proofs.Completions.{in-strings, of-strings, count-strings, fillings, endings, heightWindows-length}
 use Rattle.ranking.proofs.Listing.{in-select, of-select, count-select}
 use Rattle.ranking.proofs.Sorted.{sorted-numbering}
 use Rattle.ranking.proofs.Strings.{heightWindows-sorted}
@@ -71,20 +71,20 @@ ranks-numbered n =
 
 -- the windows that begin with p and go on before s: by a smaller symbol now, or by the same one and then before
 unfoldable pub placeFrom : ℕ → List ℕ → List ℕ → ℕ
-unfolding sum completions
+unfolding sum endings
 placeFrom n p [] = 0
-placeFrom n p (x ∷ s) = sum (λ v. completions n (p ++ (v ∷ [])) (length s)) x + placeFrom n (p ++ (x ∷ [])) s
+placeFrom n p (x ∷ s) = sum (λ v. endings n (p ++ (v ∷ [])) (length s)) x + placeFrom n (p ++ (x ∷ [])) s
 
 placeFrom-count : (n : ℕ) (p s : List ℕ) → bound s ≤ n →
     placeFrom n p s ≡ count (λ t. isHeight (p ++ t) && lexLt t s) (strings (length s) n)
-unfolding placeFrom completions fillings bound
+unfolding placeFrom endings fillings bound
 placeFrom-count n p [] h = sym (count-none (λ t. isHeight (p ++ t) && lexLt t []) (strings 0 n) (λ t m. rw (lexLt-nil t, and-false)))
 placeFrom-count n p (x ∷ s) h =
     let r = length s in
     let q : List ℕ → Bool = λ t. isHeight (p ++ t) && lexLt t (x ∷ s) in
     let g : ℕ → ℕ = λ v. count (λ t. q (v ∷ t)) (strings r n) in
     let all : n ≡ suc x + (n - suc x) = omega arith in
-    let less : (v : ℕ) → v < x → g v ≡ completions n (p ++ (v ∷ [])) r = λ v l.
+    let less : (v : ℕ) → v < x → g v ≡ endings n (p ++ (v ∷ [])) r = λ v l.
     count-cong (λ t. q (v ∷ t)) (λ t. isHeight (p ++ (v ∷ []) ++ t)) (strings r n)
     (λ t m. rw (lexLt-less v x t s l, and-true, append-snoc)) in
     let same : g x ≡ placeFrom n (p ++ (x ∷ [])) s =
@@ -93,7 +93,7 @@ placeFrom-count n p (x ∷ s) h =
     ∙ sym (placeFrom-count n (p ++ (x ∷ [])) s (omega arith)) in
     let greater = sum-past g (suc x) (n - suc x) (λ v a b.
     count-none (λ t. q (v ∷ t)) (strings r n) (λ t m. rw (lexLt-greater v x t s a, and-false))) in
-    omega (arith, count-strings q r n, ap (sum g) all, greater, sum-suc g x, same, sum-cong g (λ v. completions n (p ++ (v ∷ [])) r) x less)
+    omega (arith, count-strings q r n, ap (sum g) all, greater, sum-suc g x, same, sum-cong g (λ v. endings n (p ++ (v ∷ [])) r) x less)
 
 pub place-by-prefixes : (w : List ℕ) → bound w ≤ length w → place w ≡ placeFrom (length w) [] w
 unfolding place heightWindows
@@ -101,8 +101,8 @@ place-by-prefixes w h = count-select isHeight (λ u. lexLt u w) (strings (length
 
 -- what the symbol at the index i adds to the place
 unfoldable pub placeAt : List ℕ → ℕ → ℕ
-unfolding sum completions
-placeAt w i = sum (λ v. completions (length w) (take i w ++ (v ∷ [])) (length w - suc i)) (getD w i 0)
+unfolding sum endings
+placeAt w i = sum (λ v. endings (length w) (take i w ++ (v ∷ [])) (length w - suc i)) (getD w i 0)
 
 placeFrom-next : (w : List ℕ) (i : ℕ) → i < length w →
     placeFrom (length w) (take i w) (drop i w) ≡ placeAt w i + placeFrom (length w) (take (suc i) w) (drop (suc i) w)
@@ -111,7 +111,7 @@ placeFrom-next w i l =
     let n = length w in
     let s = drop (suc i) w in
     let x = getD w i 0 in
-    let e = ap (λ m. sum (λ v. completions n (take i w ++ (v ∷ [])) m) x) (length-drop (suc i) w) in
+    let e = ap (λ m. sum (λ v. endings n (take i w ++ (v ∷ [])) m) x) (length-drop (suc i) w) in
     ap (placeFrom n (take i w)) (drop-cons w i 0 l) ∙ omega (arith, e, ap (λ q. placeFrom n q s) (take-suc w i 0 l))
 
 -- a loop over the symbols: what it has added up after i of them, and what is to come

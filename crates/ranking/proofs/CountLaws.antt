@@ -1,10 +1,11 @@
--- The ways to fill the places that are left, and L(n, k) as one of them. Assumes nothing.
+-- Laws of the numbers: `ways`, `waysFrom`, L(n, k) and a(n). Assumes nothing.
 use mathlib.Core.Path.{_≡_, refl, ap}
-use Prim.Native.Nat.{ℕ, zero, suc, _+_, _*_, _≤_, _<_, zero-le, suc-le-suc}
-use native.Mathlib.Nat.{mul-zero, mul-le-mul-right}
-use native.Mathlib.Decide.{le-ind}
+use Prim.Native.Nat.{ℕ, zero, suc, _+_, _-_, _*_, _≤_, _<_, zero-le, suc-le-suc}
+use native.Mathlib.Nat.{add-zero, mul-zero, mul-le-mul-right}
+use native.Mathlib.Decide.{decLe, le-ind}
 use native.Mathlib.Omega.{arith}
-use Rattle.ranking.specs.Counts.{L, sum, a, ways}
+use Rattle.ranking.specs.Counts.{L, sum, a, ways, waysFrom}
+use Rattle.ranking.proofs.Sums.{sum-zero, sum-suc, sum-cong, sum-append}
 
 -- one more height is allowed: it occurs, or it does not
 pub ways-split : (r m p : ℕ) → ways r m (suc p) ≡ ways r (suc m) p + ways r m p
@@ -37,7 +38,52 @@ ways-none r zero p h = absurd (omega arith)
 ways-none zero (suc m) p h = refl
 ways-none (suc r) (suc m) p h = rw (ways-none r m (suc p) (omega arith), ways-none r (suc m) p (omega arith), mul-zero, mul-zero)
 
--- a grows
+-- ---- m missing heights or more
+
+pub waysFrom-none : (r m p : ℕ) → r < m → waysFrom r m p ≡ 0
+unfolding waysFrom
+waysFrom-none r m p h = let z : suc r - m ≡ 0 = omega arith in rw z
+
+-- m of them, or more than m
+pub waysFrom-next : (r m p : ℕ) → waysFrom r m p ≡ ways r m p + waysFrom r (suc m) p
+unfolding waysFrom
+waysFrom-next r m p = elim (decLe m r) [
+  | yes l ↦
+      let f : ℕ → ℕ = λ j. ways r (m + j) p in
+      let e : suc r - m ≡ 1 + (suc r - suc m) = omega arith in
+      omega (
+        arith,
+        ap (sum f) e,
+        sum-append f 1 (suc r - suc m),
+        sum-suc f 0,
+        sum-zero f,
+        ap (λ k. ways r k p) (add-zero m),
+        sum-cong (λ j. f (1 + j)) (λ j. ways r (suc m + j) p) (suc r - suc m) (λ j l. ap (λ k. ways r k p) (omega arith)),
+      )
+  | no l ↦ omega (arith, ways-none r m p (omega arith), waysFrom-none r m p (omega arith), waysFrom-none r (suc m) p (omega arith))
+]
+
+-- one more height is allowed
+pub waysFrom-split : (r m p : ℕ) → waysFrom r m (suc p) ≡ waysFrom r (suc m) p + waysFrom r m p
+waysFrom-split r m p = from (suc r) m (omega arith)
+  where
+    from : (d m : ℕ) → suc r ≤ m + d → waysFrom r m (suc p) ≡ waysFrom r (suc m) p + waysFrom r m p
+    from zero m h = omega (
+      arith,
+      waysFrom-none r m (suc p) (omega arith),
+      waysFrom-none r (suc m) p (omega arith),
+      waysFrom-none r m p (omega arith),
+    )
+    from (suc d) m h = omega (
+      arith,
+      waysFrom-next r m (suc p),
+      ways-split r m p,
+      from d (suc m) (omega arith),
+      waysFrom-next r (suc m) p,
+      waysFrom-next r m p,
+    )
+
+-- ---- a grows
 pub a-mono : (m n : ℕ) → m ≤ n → a m ≤ a n
 unfolding a sum L
 a-mono m n h = le-ind (λ n. a m ≤ a n) (omega arith) (λ n l i. omega (arith, next n)) n h
