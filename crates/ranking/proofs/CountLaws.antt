@@ -1,11 +1,26 @@
 -- Laws of the numbers: `ways`, `waysFrom`, L(n, k) and a(n). Assumes nothing.
+use mathlib.Core.Logic.{_≢_}
 use mathlib.Core.Path.{_≡_, refl, ap}
-use Prim.Native.Nat.{ℕ, zero, suc, _+_, _-_, _*_, _≤_, _<_, zero-le, suc-le-suc}
+use Prim.Native.Nat.{ℕ, zero, suc, pred, _+_, _-_, _*_, _≤_, _<_, zero-le, suc-le-suc}
 use native.Mathlib.Nat.{add-zero, mul-zero, mul-le-mul-right}
 use native.Mathlib.Decide.{decLe, le-ind}
+use native.Mathlib.Numerals.{add-one}
 use native.Mathlib.Omega.{arith}
 use Rattle.ranking.specs.Counts.{L, sum, a, ways, waysFrom}
 use Rattle.ranking.proofs.Sums.{sum-zero, sum-suc, sum-cong, sum-append}
+
+-- the first place takes a missing height or a present one
+pub ways-first : (r m p : ℕ) → r ≢ 0 → ways r m p ≡ m * ways (r - 1) (m - 1) (p + 1) + p * ways (r - 1) m p
+unfolding ways
+ways-first zero m p h = absurd (h refl)
+ways-first (suc r) m p h =
+    let (e₀, e₁, e₂) : (suc r - 1 ≡ r) × (m - 1 ≡ pred m) × (p + 1 ≡ suc p) = omega arith in
+    rw (e₀, e₁, e₂)
+
+-- with none missing each place takes a present one
+pub ways-none-missing : (r p : ℕ) → ways r 0 p * p ≡ ways (r + 1) 0 p
+unfolding ways
+ways-none-missing r p = rw add-one (omega arith)
 
 -- one more height is allowed: it occurs, or it does not
 pub ways-split : (r m p : ℕ) → ways r m (suc p) ≡ ways r (suc m) p + ways r m p

@@ -9,3 +9,4 @@ pub mod Places
 pub mod WindowAt
 pub mod Tabled
 pub mod Prefixes
+pub mod Scans

@@ -14,7 +14,7 @@ use Rattle.weak_orders.proofs.Symbols.{bound, bound-back}
 use Rattle.ranking.specs.Counts.{a, ways, waysFrom}
 use Rattle.ranking.proofs.Completions.{endings, endings-suc, endings-ways, endings-all}
 use Rattle.ranking.proofs.Sums.{term≤sum}
-use Rattle.ranking.proofs.CountLaws.{waysFrom-next}
+use Rattle.ranking.proofs.CountLaws.{waysFrom-next, a-mono}
 
 -- a prefix has no more endings than a shorter one
 pub endings-part : (n : ℕ) (p : List ℕ) (v r : ℕ) → v < n → endings n (p ++ (v ∷ [])) r ≤ endings n p (suc r)
@@ -62,3 +62,14 @@ waysFrom≤a r (suc m) p = omega (arith, waysFrom-next r m p, waysFrom≤a r m p
 
 pub ways≤a : (r m p : ℕ) → ways r m p ≤ a (p + r)
 ways≤a r m p = omega (arith, waysFrom-next r m p, waysFrom≤a r m p)
+
+-- a(16), which fits 64 bits; so do all of the numbers above, up to 16
+pub a≤a16 : (n : ℕ) → n ≤ 16 → a n ≤ 5315654681981355
+unfolding a
+a≤a16 n h = let e : a 16 ≡ 5315654681981355 = refl in omega (arith, a-mono n 16 h)
+
+pub waysFrom-small : (r m p : ℕ) → r + p ≤ 16 → waysFrom r m p ≤ 5315654681981355
+waysFrom-small r m p h = omega (arith, waysFrom≤a r m p, a≤a16 (p + r) (omega arith))
+
+pub ways-small : (r m p : ℕ) → r + p ≤ 16 → ways r m p ≤ 5315654681981355
+ways-small r m p h = omega (arith, ways≤a r m p, a≤a16 (p + r) (omega arith))

@@ -3,9 +3,12 @@
 // the place of its heights, and is converted by the caller.
 ghost use mathlib.Core.Bool.{cond, _&&_};
 ghost use mathlib.Core.Path.{_≡_};
-ghost use Prim.Native.Nat.{ℕ, _+_, _≤_, _<_};
+ghost use Prim.Native.Nat.{ℕ, max, _+_, _≤_, _<_};
 ghost use lib.Dec.{leb};
-ghost use Rattle.ranking.specs.Counts.{L, a};
+ghost use lib.ListN.{getD, take};
+ghost use Rattle.weak_orders.specs.Window.{occurs, different};
+ghost use Rattle.weak_orders.proofs.Symbols.{bound};
+ghost use Rattle.ranking.specs.Counts.{L, a, ways, waysFrom};
 
 mod tables;
 
@@ -32,4 +35,107 @@ pub fn weak_order_count_with(n: usize, k: usize) -> u64
     }
     let counts = tables::by_symbols();
     counts[n * 17 + k]
+}
+
+// The ways to fill rest places with the present heights, none being missing.
+fn none_missing(rest: u64, present: u64) -> u64
+    requires { ⌜ rest + present ≤ 16 ⌝ }
+    ensures { λ r. ⌜ r ≡ ways rest 0 present ⌝ }
+{
+    let mut total = 1;
+    let mut places = 0;
+    while places < rest {
+        total *= present;
+        places += 1;
+    }
+    total
+}
+
+// The ways to fill rest places where each of the missing heights has to stand in one, and any of the present may. The first place
+// takes a missing height, which is then present, or a present one; the latter only where there is a place to spare.
+fn ways(rest: u64, missing: u64, present: u64) -> u64
+    requires { ⌜ rest + present ≤ 16 ⌝ }
+    ensures { λ r. ⌜ r ≡ ways rest missing present ⌝ }
+{
+    if rest < missing {
+        return 0;
+    }
+    if present == 0 {
+        return weak_order_count_with(rest as usize, missing as usize);
+    }
+    if missing == 0 {
+        return none_missing(rest, present);
+    }
+    let taken = missing * ways(rest - 1, missing - 1, present + 1);
+    if rest == missing {
+        return taken;
+    }
+    taken + present * ways(rest - 1, missing, present)
+}
+
+// For each m up to 16: the ways to fill rest places with m or more missing heights.
+fn ways_from(rest: u64, present: u64) -> [u64; 17]
+    requires { ⌜ rest + present ≤ 16 ⌝ }
+    ensures { λ r. ⌜ ((m : ℕ) → m < 17 → getD r m 0 ≡ waysFrom rest m present) ⌝ }
+{
+    let mut totals = [0u64; 17];
+    let mut total = 0;
+    let mut m: usize = 17;
+    while 0 < m {
+        m -= 1;
+        total += ways(rest, m as u64, present);
+        totals[m] = total;
+    }
+    totals
+}
+
+// v is among the first i symbols.
+fn occurs(w: [u8; 16], i: usize, v: u8) -> bool
+    requires { ⌜ i ≤ 16 ⌝ }
+    ensures { λ r. ⌜ r ≡ occurs (take i w) v ⌝ }
+{
+    let mut j = 0;
+    while j < i {
+        if w[j] == v {
+            return true;
+        }
+        j += 1;
+    }
+    false
+}
+
+// How many different symbols are among the first i.
+fn different(w: [u8; 16], i: usize) -> usize
+    requires { ⌜ i ≤ 16 ⌝ }
+    ensures { λ r. ⌜ r ≡ different (take i w) ⌝ }
+{
+    let mut d = 0;
+    let mut j = 0;
+    while j < i {
+        if !occurs(w, j, w[j]) {
+            d += 1;
+        }
+        j += 1;
+    }
+    d
+}
+
+fn larger(x: usize, y: usize) -> usize
+    ensures { λ r. ⌜ r ≡ max x y ⌝ }
+{
+    if x < y { y } else { x }
+}
+
+// One more than the largest of the first i symbols; 0 where there is none.
+fn bound(w: [u8; 16], i: usize) -> usize
+    requires { ⌜ i ≤ 16 ⌝ }
+    ensures { λ r. ⌜ r ≡ bound (take i w) ⌝ }
+{
+    let mut b = 0;
+    let mut j = 0;
+    while j < i {
+        b = larger(b, w[j] as usize + 1);
+        j += 1;
+    }
+    b
 }
