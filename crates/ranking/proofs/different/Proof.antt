@@ -4,6 +4,7 @@ use mathlib.Core.Path.{_≡_, refl, sym, ap, _∙_}
 use Prim.Native.Nat.{_+_, _≤_, _-_}
 use native.Mathlib.Omega.{arith}
 use lib.ListN.{length, take, length-take}
+use borrow.Author.Tests.{not-true, not-false}
 use Rattle.weak_orders.specs.Window.{different as differentIn}
 use Rattle.weak_orders.proofs.Symbols.{different≤length}
 use Rattle.ranking.proofs.Scans.{different-seen, different-unseen}
@@ -47,7 +48,15 @@ loop-again c =
     let w = c .before .before .before .before .args .t1 in
     let j = c .before .before .before .loop .j in
     let l : length w ≡ 16 = search needs in
-    (search needs, ⊎-elim (λ u. ?u) (λ u. ?v) (c .if1 .came))
+    let was = c .before .before .before .loop .inv .1 in
+    let o = c .before .occurs .ensures in
+    (
+      search needs,
+      ⊎-elim
+      (λ u. omega (arith, u .1, was, different-unseen w j (omega arith) (sym o ∙ not-true _ (u .0 .taken))))
+      (λ u. omega (arith, u .1, was, different-seen w j (omega arith) (sym o ∙ not-false _ (u .0 .left))))
+      (c .if1 .came),
+    )
 
 returns : tie.Need-returns Inv-loop μ-loop
 returns c =
