@@ -1,19 +1,29 @@
 -- The test over a whole table, carried to each entry. Assumes nothing.
 use mathlib.Core.Bool.{true}
 use mathlib.Core.List.{List}
-use mathlib.Core.Path.{_≡_, ap₂, _∙_}
+use mathlib.Core.Logic.{_≢_}
+use mathlib.Core.Path.{_≡_, sym, ap, ap₂, _∙_}
 use Prim.Native.Nat.{ℕ, zero, suc, _+_, _*_, _/_, _%_, _≤_, _<_}
 use native.Mathlib.Omega.{arith}
+use native.Mathlib.Decide.{ℕ-discrete}
 use lib.Dec.{eqb}
-use lib.ListN.{getD}
+use lib.ListN.{length, getD, set}
+use lib.Seq.{getD-set-same, getD-set-other}
 use borrow.Author.Tests.{eqb-true}
 use Rattle.weak_orders.proofs.Lists.{all-in, in-range}
 use Rattle.ranking.specs.Counts.{L}
-use Rattle.ranking.specs.Tables.{tabled, recurrence, isCountTable}
+use Rattle.ranking.specs.Tables.{tabled, Entries, recurrence, isCountTable}
 
-pub tabled-at : (m : ℕ) (f : ℕ → ℕ) (t : List ℕ) → tabled m f t ≡ true → (i : ℕ) → i < m → getD t i 0 ≡ f i
+pub tabled-at : (m : ℕ) (f : ℕ → ℕ) (t : List ℕ) → tabled m f t ≡ true → Entries t f m
 unfolding tabled
 tabled-at m f t h i l = eqb-true (getD t i 0) (f i) (all-in (λ i. eqb (getD t i 0) (f i)) h (in-range m i l))
+
+-- a store, and what holds of the other entries
+pub entries-set : (t : List ℕ) (f : ℕ → ℕ) (k x : ℕ) → k < length t → x ≡ f k → (i : ℕ) → (i ≢ k → getD t i 0 ≡ f i) → getD (set t k x) i 0 ≡ f i
+entries-set t f k x h e i others = elim (ℕ-discrete i k) [
+  | yes same ↦ ap (λ i. getD (set t k x) i 0) same ∙ getD-set-same t k x 0 h ∙ e ∙ ap f (sym same)
+  | no ne ↦ getD-set-other t k i x 0 ne ∙ others ne
+]
 
 module _ (t : List ℕ) (h : isCountTable t ≡ true) where
   by-recurrence : (n k : ℕ) → n ≤ 16 → k ≤ 16 → getD t (n * 17 + k) 0 ≡ recurrence t n k

@@ -1,7 +1,8 @@
 -- What is tested over the whole of a table (document 01, "Windows").
 use mathlib.Core.Bool.{Bool}
 use mathlib.Core.List.{List}
-use Prim.Native.Nat.{ℕ, zero, suc, _+_, _*_, _/_, _%_}
+use mathlib.Core.Path.{_≡_}
+use Prim.Native.Nat.{ℕ, zero, suc, _+_, _*_, _/_, _%_, _<_}
 use lib.Dec.{eqb}
 use lib.ListN.{getD}
 use Rattle.weak_orders.specs.Window.{all, range}
@@ -10,6 +11,10 @@ use Rattle.weak_orders.specs.Window.{all, range}
 unfoldable pub tabled : ℕ → (ℕ → ℕ) → List ℕ → Bool
 unfolding all range
 tabled m f t = all (λ i. eqb (getD t i 0) (f i)) (range m)
+
+-- the same as a statement
+abbrev pub Entries : List ℕ → (ℕ → ℕ) → ℕ → Type 0
+Entries t f m = (i : ℕ) → i < m → getD t i 0 ≡ f i
 
 -- document 01's recurrence for L(n, k), of the entries of a table with 17 in a row
 unfoldable pub recurrence : List ℕ → ℕ → ℕ → ℕ

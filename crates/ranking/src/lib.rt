@@ -9,6 +9,7 @@ ghost use lib.ListN.{getD, take};
 ghost use Rattle.weak_orders.specs.Window.{occurs, different};
 ghost use Rattle.weak_orders.proofs.Symbols.{bound};
 ghost use Rattle.ranking.specs.Counts.{L, a, ways, waysFrom};
+ghost use Rattle.ranking.specs.Tables.{Entries};
 
 mod tables;
 
@@ -76,7 +77,7 @@ fn ways(rest: u64, missing: u64, present: u64) -> u64
 // For each m up to 16: the ways to fill rest places with m or more missing heights.
 fn ways_from(rest: u64, present: u64) -> [u64; 17]
     requires { ⌜ rest + present ≤ 16 ⌝ }
-    ensures { λ r. ⌜ ((m : ℕ) → m < 17 → getD r m 0 ≡ waysFrom rest m present) ⌝ }
+    ensures { λ r. ⌜ Entries r (λ m. waysFrom rest m present) 17 ⌝ }
 {
     let mut totals = [0u64; 17];
     let mut total = 0;

@@ -50,8 +50,7 @@ loop-again : tie.Need-loop-again Inv-loop μ-loop
 loop-again c =
     let w = c .before .before .before .args .t1 in
     let j = c .before .before .loop .j in
-    let l : length w ≡ 16 = search needs in
-    (
+    let l : length w ≡ 16 = search needs in (
       search needs,
       c .larger .ensures ∙ ap (λ b. max b (getD w j 0 + 1)) (c .before .before .loop .inv .1) ∙ sym (bound-more w j (omega arith)),
     )

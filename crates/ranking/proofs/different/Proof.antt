@@ -49,13 +49,12 @@ loop-again c =
     let j = c .before .before .before .loop .j in
     let l : length w ≡ 16 = search needs in
     let was = c .before .before .before .loop .inv .1 in
-    let o = c .before .occurs .ensures in
-    (
+    let o = c .before .occurs .ensures in (
       search needs,
       ⊎-elim
-      (λ u. omega (arith, u .1, was, different-unseen w j (omega arith) (sym o ∙ not-true _ (u .0 .taken))))
-      (λ u. omega (arith, u .1, was, different-seen w j (omega arith) (sym o ∙ not-false _ (u .0 .left))))
-      (c .if1 .came),
+          (λ u. omega (arith, u .1, was, different-unseen w j (omega arith) (sym o ∙ not-true _ (u .0 .taken))))
+          (λ u. omega (arith, u .1, was, different-seen w j (omega arith) (sym o ∙ not-false _ (u .0 .left))))
+          (c .if1 .came),
     )
 
 returns : tie.Need-returns Inv-loop μ-loop
