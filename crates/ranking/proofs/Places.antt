@@ -4,21 +4,22 @@ use mathlib.Core.Path.{_≡_, refl, sym, ap, _∙_}
 use mathlib.Core.List.{List, [], _∷_, _++_}
 use Prim.Native.Nat.{ℕ, zero, suc, _+_, _-_, _≤_, _<_}
 use native.Mathlib.Omega.{arith}
-use lib.ListN.{length, getD, take, drop, length-drop}
+use lib.ListN.{length, getD, take, drop, length-take, length-drop, take-append-drop}
 use lib.Seq.{append-snoc, take-suc, drop-cons, drop-length}
 use Rattle.weak_orders.specs.Order.{lexLt}
 use Rattle.weak_orders.specs.Window.{all, count, isRank, isHeight, heights, ranks}
 use Rattle.weak_orders.proofs.Conversions.{ranks-isRank, heights-isHeight, length-ranks, length-heights, ranks-heights, heights-ranks}
 use Rattle.weak_orders.proofs.HeightForm.{height-bound}
-use Rattle.weak_orders.proofs.Lists.{count-cong, count-none}
+use Rattle.weak_orders.proofs.Lists.{getD-in, count-cong, count-none}
 use Rattle.weak_orders.proofs.Orders.{lexLt-nil, lexLt-less, lexLt-greater, lexLt-equal, lexLt-irreflexive, lexLt-asymmetric}
-use Rattle.weak_orders.proofs.Symbols.{bound}
+use Rattle.weak_orders.proofs.Symbols.{bound, bound-in, bound-append}
 use Rattle.weak_orders.proofs.Tests.{_∈_}
 use Rattle.ranking.specs.Counts.{sum, a}
-use Rattle.ranking.specs.Dictionary.{strings, heightWindows, place, windowAt}
+use Rattle.ranking.specs.Dictionary.{strings, heightWindows, completions, place, windowAt}
 use Rattle.ranking.specs.Numbering.{Numbering}
 use Rattle.ranking.proofs.Completions.{in-strings, of-strings, count-strings, fillings, endings, heightWindows-length}
 use Rattle.ranking.proofs.Listing.{in-select, of-select, count-select}
+use Rattle.ranking.proofs.Prefixes.{sum-endings}
 use Rattle.ranking.proofs.Sorted.{sorted-numbering}
 use Rattle.ranking.proofs.Strings.{heightWindows-sorted}
 use Rattle.ranking.proofs.Sums.{sum-zero, sum-suc, sum-cong, sum-past}
@@ -69,6 +70,9 @@ ranks-numbered n =
 
 -- ---- the place by prefixes
 
+bound-take : (w : List ℕ) (i : ℕ) → bound (take i w) ≤ bound w
+bound-take w i = omega (arith, bound-append (take i w) (drop i w), ap bound (take-append-drop i w))
+
 -- the windows that begin with p and go on before s: by a smaller symbol now, or by the same one and then before
 unfoldable pub placeFrom : ℕ → List ℕ → List ℕ → ℕ
 unfolding sum endings
@@ -99,27 +103,33 @@ pub place-by-prefixes : (w : List ℕ) → bound w ≤ length w → place w ≡ 
 unfolding place heightWindows
 place-by-prefixes w h = count-select isHeight (λ u. lexLt u w) (strings (length w) (length w)) ∙ sym (placeFrom-count (length w) [] w h)
 
--- what the symbol at the index i adds to the place
+-- what the symbol at the index i adds to the place: the completions of the symbols before it with a smaller one behind
 unfoldable pub placeAt : List ℕ → ℕ → ℕ
-unfolding sum endings
-placeAt w i = sum (λ v. endings (length w) (take i w ++ (v ∷ [])) (length w - suc i)) (getD w i 0)
+unfolding sum completions
+placeAt w i = sum (λ v. completions (length w) (take i w ++ (v ∷ []))) (getD w i 0)
 
-placeFrom-next : (w : List ℕ) (i : ℕ) → i < length w →
-    placeFrom (length w) (take i w) (drop i w) ≡ placeAt w i + placeFrom (length w) (take (suc i) w) (drop (suc i) w)
-unfolding placeFrom placeAt
-placeFrom-next w i l =
-    let n = length w in
-    let s = drop (suc i) w in
-    let x = getD w i 0 in
-    let e = ap (λ m. sum (λ v. endings n (take i w ++ (v ∷ [])) m) x) (length-drop (suc i) w) in
-    ap (placeFrom n (take i w)) (drop-cons w i 0 l) ∙ omega (arith, e, ap (λ q. placeFrom n q s) (take-suc w i 0 l))
+module _ (w : List ℕ) (h : bound w ≤ length w) where
+  placeFrom-next : (i : ℕ) → i < length w →
+      placeFrom (length w) (take i w) (drop i w) ≡ placeAt w i + placeFrom (length w) (take (suc i) w) (drop (suc i) w)
+  unfolding placeFrom placeAt
+  placeFrom-next i l =
+      let n = length w in
+      let p = take i w in
+      let s = drop (suc i) w in
+      let x = getD w i 0 in
+      let e = length-drop (suc i) w in
+      let low : x < bound w = bound-in (getD-in w i 0 l) in
+      ap (placeFrom n p) (drop-cons w i 0 l) ∙ omega (
+        arith,
+        sum-endings n p (length s) (omega (arith, bound-take w i)) (omega (arith, length-take i w)) x (omega arith),
+        ap (λ q. placeFrom n q s) (take-suc w i 0 l),
+      )
 
--- a loop over the symbols: what it has added up after i of them, and what is to come
-pub place-upto : (w : List ℕ) → bound w ≤ length w → (i : ℕ) → i ≤ length w →
-    place w ≡ sum (placeAt w) i + placeFrom (length w) (take i w) (drop i w)
-place-upto w h zero l = omega (arith, place-by-prefixes w h, sum-zero (placeAt w))
-place-upto w h (suc i) l = omega (arith, place-upto w h i (omega arith), placeFrom-next w i l, sum-suc (placeAt w) i)
+  -- a loop over the symbols: what it has added up after i of them, and what is to come
+  pub place-upto : (i : ℕ) → i ≤ length w → place w ≡ sum (placeAt w) i + placeFrom (length w) (take i w) (drop i w)
+  place-upto zero l = omega (arith, place-by-prefixes w h, sum-zero (placeAt w))
+  place-upto (suc i) l = omega (arith, place-upto i (omega arith), placeFrom-next i l, sum-suc (placeAt w) i)
 
-pub place-sum : (w : List ℕ) → bound w ≤ length w → place w ≡ sum (placeAt w) (length w)
-unfolding placeFrom
-place-sum w h = omega (arith, place-upto w h (length w) (omega arith), ap (placeFrom (length w) (take (length w) w)) (drop-length w))
+  pub place-sum : place w ≡ sum (placeAt w) (length w)
+  unfolding placeFrom
+  place-sum = omega (arith, place-upto (length w) (omega arith), ap (placeFrom (length w) (take (length w) w)) (drop-length w))

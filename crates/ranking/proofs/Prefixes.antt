@@ -19,7 +19,7 @@ use Rattle.ranking.specs.Dictionary.{strings, heightWindows, begins, com
 use Rattle.ranking.proofs.Completions.{of-strings, count-strings, fillings, endings, endings-ways}
 use Rattle.ranking.proofs.CountLaws.{waysFrom-none, waysFrom-split}
 use Rattle.ranking.proofs.Listing.{of-select, count-select}
-use Rattle.ranking.proofs.Sums.{sum-single}
+use Rattle.ranking.proofs.Sums.{sum-cong, sum-single}
 
 -- the strings that begin with p are p and any string
 begins-fillings : (q : List ℕ → Bool) (n : ℕ) (p : List ℕ) (r : ℕ) → bound p ≤ n →
@@ -58,6 +58,12 @@ unfolding completions heightWindows endings fillings
 completions-endings n p r h e = count-select isHeight (begins p) (strings n n)
     ∙ ap (λ m. count (λ w. isHeight w && begins p w) (strings m n)) (sym e)
     ∙ begins-fillings isHeight n p r h
+
+-- the completions for each symbol behind p, and their sums
+pub sum-endings : (n : ℕ) (p : List ℕ) (r : ℕ) → bound p ≤ n → length p + suc r ≡ n → (x : ℕ) → x ≤ n →
+    sum (λ v. endings n (p ++ (v ∷ [])) r) x ≡ sum (λ v. completions n (p ++ (v ∷ []))) x
+sum-endings n p r h e x l = sum-cong (λ v. endings n (p ++ (v ∷ [])) r) (λ v. completions n (p ++ (v ∷ []))) x (λ v l′.
+    sym (completions-endings n (p ++ (v ∷ [])) r (omega (arith, bound-back p v)) (omega (arith, length-append p (v ∷ [])))))
 
 -- the heights missing below the largest symbol of p, and any number more, go into the places that are left
 pub completions-ways : (n : ℕ) (p : List ℕ) → length p ≤ n →

@@ -1,14 +1,16 @@
 // The numbers a(n) and L(n, k) of weak orders, and the places of height windows in dictionary order (document 01, "Windows" and
 // "Place"). Rests on weak_orders. Completions of a prefix are counted, never listed. Knows no rule and no session; a rank window has
 // the place of its heights, and is converted by the caller.
-ghost use mathlib.Core.Bool.{cond, _&&_};
+ghost use mathlib.Core.Bool.{cond, true, false, _&&_};
+ghost use mathlib.Core.List.{[], _∷_, _++_};
 ghost use mathlib.Core.Path.{_≡_};
-ghost use Prim.Native.Nat.{ℕ, max, _+_, _≤_, _<_};
+ghost use Prim.Native.Nat.{ℕ, max, _+_, _-_, _^_, _≤_, _<_};
 ghost use lib.Dec.{leb};
 ghost use lib.ListN.{getD, take};
-ghost use Rattle.weak_orders.specs.Window.{occurs, different};
+ghost use Rattle.weak_orders.specs.Window.{occurs, different, isHeight, isLength, padded};
 ghost use Rattle.weak_orders.proofs.Symbols.{bound};
-ghost use Rattle.ranking.specs.Counts.{L, a, ways, waysFrom};
+ghost use Rattle.ranking.specs.Counts.{L, a, sum, ways, waysFrom, Found};
+ghost use Rattle.ranking.specs.Dictionary.{completions, place, windowAt};
 ghost use Rattle.ranking.specs.Tables.{Entries};
 
 mod tables;
@@ -139,4 +141,102 @@ fn bound(w: [u8; 16], i: usize) -> usize
         j += 1;
     }
     b
+}
+
+// The completions of a prefix with one symbol more. totals holds the ways with m or more missing heights, and missing is how many
+// the prefix then misses, the symbol itself among them where the prefix does not hold it.
+fn with_symbol(totals: [u64; 17], missing: usize, held: bool) -> u64
+    requires { ⌜ (missing < 17) × (held ≡ false → 0 < missing) × ((m : ℕ) → m < 17 → getD totals m 0 < 2 ^ 63) ⌝ }
+    ensures { λ r. ⌜ r ≡ cond held (getD totals missing 0) (getD totals (missing - 1) 0 + getD totals missing 0) ⌝ }
+{
+    if held {
+        return totals[missing];
+    }
+    totals[missing - 1] + totals[missing]
+}
+
+// For each symbol v below n: the completions of the first i symbols of w with v behind them.
+fn continuations(w: [u8; 16], n: usize, i: usize) -> [u64; 16]
+    requires { ⌜ (i < n) × (n ≤ 16) × (bound (take i w) ≤ n) ⌝ }
+    ensures { λ r. ⌜ Entries r (λ v. completions n (take i w ++ (v ∷ []))) n ⌝ }
+{
+    let present = different(w, i);
+    let top = bound(w, i);
+    let totals = ways_from((n - 1 - i) as u64, present as u64);
+    let mut counts = [0u64; 16];
+    let mut v: usize = 0;
+    while v < n {
+        let missing = larger(top, v + 1) - present;
+        counts[v] = with_symbol(totals, missing, occurs(w, i, v as u8));
+        v += 1;
+    }
+    counts
+}
+
+// The first v counts added up.
+fn sum_below(counts: [u64; 16], v: usize) -> u64
+    requires { ⌜ (v ≤ 16) × (sum (λ u. getD counts u 0) v < 2 ^ 63) ⌝ }
+    ensures { λ r. ⌜ r ≡ sum (λ u. getD counts u 0) v ⌝ }
+{
+    let mut total = 0;
+    let mut u = 0;
+    while u < v {
+        total += counts[u];
+        u += 1;
+    }
+    total
+}
+
+// The place of a height window: for each symbol, the completions of those before it with a smaller one behind.
+fn place_of(w: [u8; 16], n: usize) -> u64
+    requires { ⌜ (isLength n ≡ true) × (isHeight (take n w) ≡ true) ⌝ }
+    ensures { λ r. ⌜ r ≡ place (take n w) ⌝ }
+{
+    let mut before = 0;
+    let mut i = 0;
+    while i < n {
+        before += sum_below(continuations(w, n, i), w[i] as usize);
+        i += 1;
+    }
+    before
+}
+
+// A symbol, and how many of the windows that have it stand before the one that is looked for.
+struct Next {
+    symbol: u8,
+    left: u64,
+}
+
+// The symbol of the window at the place left, where counts says how many windows go on with each symbol below n.
+fn symbol_at(counts: [u64; 16], n: usize, left: u64) -> Next
+    requires { ⌜ (n ≤ 16) × (left < sum (λ u. getD counts u 0) n) ⌝ }
+    ensures { λ r. ⌜ Found (λ u. getD counts u 0) left (r .symbol) (r .left) ⌝ }
+{
+    let mut rest = left;
+    let mut v: usize = 0;
+    while counts[v] <= rest {
+        rest -= counts[v];
+        v += 1;
+    }
+    Next {
+        symbol: v as u8,
+        left: rest,
+    }
+}
+
+// The window at a place, symbol by symbol.
+fn window_of(n: usize, place: u64) -> [u8; 16]
+    requires { ⌜ (isLength n ≡ true) × (place < a n) ⌝ }
+    ensures { λ r. ⌜ r ≡ padded (windowAt n place) ⌝ }
+{
+    let mut window = [0u8; 16];
+    let mut left = place;
+    let mut i = 0;
+    while i < n {
+        let next = symbol_at(continuations(window, n, i), n, left);
+        window[i] = next.symbol;
+        left = next.left;
+        i += 1;
+    }
+    window
 }
