@@ -7,3 +7,8 @@ pub mod Rotations
 pub mod RankForm
 pub mod HeightForm
 pub mod Conversions
+pub mod Parts
+pub mod Tallies
+pub mod Bits
+pub mod Padded
+pub mod FormTests

@@ -11,8 +11,9 @@ use native.Mathlib.Decide.{decLt}
 use lib.Dec.{eqb}
 use lib.ListN.{length, getD, take, drop, take-append-drop, replicate, length-append, List·getD-append}
 use lib.Seq.{getD-at}
+use Rattle.weak_orders.specs.Says.{Says}
 use Rattle.weak_orders.specs.Window.{all, count, range}
-use Rattle.weak_orders.proofs.Tests.{_∈_, here, there, nowhere, split-mem, by-test, bit, bit≤1, Says, says?, says-as, says-itself, says-eq, says-all}
+use Rattle.weak_orders.proofs.Tests.{_∈_, here, there, nowhere, split-mem, by-test, bit, bit≤1, says?, says-as, says-itself, says-eq, says-all}
 
 -- ---- members
 
@@ -45,6 +46,12 @@ all-same a (x ∷ b) h = ap₂ _∷_ (h x here) (all-same a b (λ y m. h y (ther
 pub map-cong : {A B : Type 0} (f g : A → B) (xs : List A) → ((x : A) → x ∈ xs → f x ≡ g x) → map f xs ≡ map g xs
 map-cong f g [] h = refl
 map-cong f g (x ∷ xs) h = cc (h x here, map-cong f g xs (λ y m. h y (there m)))
+
+-- an element of a map is that of the list, mapped
+pub getD-map : (f : ℕ → ℕ) (l : List ℕ) (j : ℕ) → j < length l → getD (map f l) j 0 ≡ f (getD l j 0)
+getD-map f [] j lt = absurd (omega arith)
+getD-map f (x ∷ l) zero lt = refl
+getD-map f (x ∷ l) (suc j) lt = getD-map f l j (omega arith)
 
 pub map-map : {A B C : Type 0} (g : B → C) (f : A → B) (xs : List A) → map g (map f xs) ≡ map (λ x. g (f x)) xs
 map-map g f [] = refl
@@ -143,6 +150,9 @@ getD-range (suc n) j lt = elim (decLt j n) [
   | yes l ↦ List·getD-append (range n) (n ∷ []) 0 j (omega (arith, length-range n)) ∙ getD-range n j l
   | no l ↦ getD-at (range n) n [] 0 j (omega (arith, length-range n)) ∙ omega arith
 ]
+
+pub getD-map-range : (f : ℕ → ℕ) (n j : ℕ) → j < n → getD (map f (range n)) j 0 ≡ f j
+getD-map-range f n j lt = getD-map f (range n) j (omega (arith, length-range n)) ∙ ap f (getD-range n j lt)
 
 pub count-range : (p : ℕ → Bool) (n : ℕ) → count p (range (suc n)) ≡ count p (range n) + bit (p n)
 unfolding range

@@ -8,8 +8,9 @@ use native.Mathlib.Omega.{arith}
 use native.Mathlib.Decide.{decLt, ℕ-discrete}
 use borrow.Author.Tests.{lt-ltb, le-ltb, eq-eqb, ne-eqb, not-true}
 use Rattle.weak_orders.specs.Order.{lexLe, lexLt}
+use Rattle.weak_orders.specs.Says.{Says}
 use Rattle.weak_orders.proofs.Lists.{total}
-use Rattle.weak_orders.proofs.Tests.{_∈_, here, there, split-mem, Says, says-as, says-lt}
+use Rattle.weak_orders.proofs.Tests.{_∈_, here, there, split-mem, says-as, says-lt}
 
 -- the order of two strings with a first symbol each
 pub lex-cons : (x : ℕ) (u : List ℕ) (y : ℕ) (v : List ℕ) → Says (lexLe (x ∷ u) (y ∷ v)) ((x < y) ⊎ ((x ≡ y) × (lexLe u v ≡ true)))

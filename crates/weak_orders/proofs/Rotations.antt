@@ -11,12 +11,13 @@ use lib.ListN.{length, take, drop, getD, length-append, take-append-drop, length
 use lib.Seq.{take-suc, drop-cons, take-length, drop-length, take-append-seam, drop-append-seam}
 use Rattle.weak_orders.specs.Order.{lexLe}
 use Rattle.weak_orders.specs.Rotation.{rotation, rotations, isLeast, isGreatest, firstIndex, start}
+use Rattle.weak_orders.specs.Says.{Says}
 use Rattle.weak_orders.specs.Window.{all, count, range, iter, num, below}
 use Rattle.weak_orders.proofs.Iterates.{_⇝⟨_⟩_, iter-add, along, stay, on, _⨟_, first-step, back}
 use Rattle.weak_orders.proofs.Lists.{count-append, in-range, length-range, getD-range, total, total-append}
 use Rattle.weak_orders.proofs.Orders.{lex-trans, lex-total, least-member}
 use Rattle.weak_orders.proofs.Symbols.{num-mem}
-use Rattle.weak_orders.proofs.Tests.{_∈_, there, nowhere, split-mem, true?, not-true→false, Says, says-as, says-itself, says-all}
+use Rattle.weak_orders.proofs.Tests.{_∈_, there, nowhere, split-mem, true?, not-true→false, says-as, says-itself, says-all}
 
 -- Rotation by one.
 unfoldable pub turn : List ℕ → List ℕ

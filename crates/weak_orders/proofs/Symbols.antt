@@ -10,10 +10,12 @@ use native.Mathlib.Decide.{decLt, decLe, ℕ-discrete, le-ind}
 use lib.Dec.{ltb, eqb}
 use lib.ListN.{length}
 use borrow.Author.Tests.{ltb-true, ltb-false, eqb-true, lt-ltb, le-ltb, eq-eqb, ne-eqb}
+use Rattle.weak_orders.specs.Says.{Says}
 use Rattle.weak_orders.specs.Window.{range, num, occurs, different, below, height}
 use Rattle.weak_orders.proofs.Iterates.{rest}
-use Rattle.weak_orders.proofs.Lists.{count-cons, count-append, count-le-length, count-cong, count-map, count-none, count-pos, count-find, of-range, count-range}
-use Rattle.weak_orders.proofs.Tests.{_∈_, here, there, nowhere, split-mem, by-test, bit, bit≤1, Says, says?, says-as, says-lt}
+use Rattle.weak_orders.proofs.Lists.{count-nil, count-cons, count-append, count-le-length, count-cong, count-map, count-none, count-pos, count-find, of-range}
+use Rattle.weak_orders.proofs.Lists.{count-range}
+use Rattle.weak_orders.proofs.Tests.{_∈_, here, there, nowhere, split-mem, by-test, bit, bit≤1, says?, says-as, says-lt}
 
 -- ---- occurrences
 
@@ -72,6 +74,15 @@ below-less x w v lt = let e : bit (ltb x v) ≡ 1 = rw (lt-ltb x v lt) in omega 
 
 pub below-more : (x : ℕ) (w : List ℕ) (v : ℕ) → v ≤ x → below (x ∷ w) v ≡ below w v
 below-more x w v le = let e : bit (ltb x v) ≡ 0 = rw (le-ltb x v le) in omega (arith, below-front x w v)
+
+pub below-back : (w : List ℕ) (x v : ℕ) → below (w ++ (x ∷ [])) v ≡ below w v + bit (ltb x v)
+unfolding below
+below-back w x v = omega (
+  arith,
+  count-append (λ x. ltb x v) w (x ∷ []),
+  count-cons (λ x. ltb x v) x [],
+  count-nil (λ x. ltb x v),
+)
 
 pub below-le-length : (w : List ℕ) (v : ℕ) → below w v ≤ length w
 unfolding below

@@ -7,6 +7,7 @@ use Prim.Native.Nat.{ℕ, _≤_, _<_}
 use native.Mathlib.Omega.{arith}
 use lib.Dec.{ltb, eqb}
 use borrow.Author.Tests.{ltb-true, lt-ltb, eqb-true, eq-eqb}
+use Rattle.weak_orders.specs.Says.{Says}
 use Rattle.weak_orders.specs.Window.{all}
 
 infix 4 _∈_
@@ -50,11 +51,6 @@ bit b = cond b 1 0
 pub bit≤1 : (b : Bool) → bit b ≤ 1
 bit≤1 true = omega arith
 bit≤1 false = omega arith
-
--- the test b passes just where A holds
-pub record Says (b : Bool) (A : Type 0) : Type 0 where
-  pub to : b ≡ true → A
-  pub of : A → b ≡ true
 
 pub says? : {b : Bool} {A : Type 0} → Says b A → Dec A
 says? {b} s = elim (true? b) [ yes t ↦ yes (s .to t) | no n ↦ no (λ a. n (s .of a)) ]

@@ -1,2 +1,263 @@
 // Weak orders of n things, ties included: windows of n symbols, their rank form and their height form.
 // Rests on nothing. Knows no rule and no session.
+// A window is an array of 16 by value with n beside; the symbols past n are not looked at, and are 0 in every window made here.
+ghost use mathlib.Core.Bool.{true, cond};
+ghost use mathlib.Core.Path.{_≡_};
+ghost use Prim.Native.Nat.{min, suc, _≤_, _<_, _%_, _^_};
+ghost use lib.Count.{ones};
+ghost use lib.Dec.{ltb};
+ghost use lib.ListN.{take, drop};
+ghost use Rattle.weak_orders.specs.Says.{Says};
+ghost use Rattle.weak_orders.specs.Window.{below, height, heights, ranks, isLength, padded, shifted};
+ghost use Rattle.weak_orders.specs.Tables.{tally, Ranked, Unbroken, bitOf, bitsOf};
+ghost use Rattle.weak_orders.specs.Converted.{isRankWindow, isHeightWindow, rankToHeight, heightToRank};
+
+// A symbol's place in a table of counts: its own up to 16, and 17 for all larger ones.
+fn slot(v: u8) -> usize
+    ensures { λ r. ⌜ r ≡ min v 17 ⌝ }
+{
+    if v < 17 { v as usize } else { 17 }
+}
+
+// A window has at most 16 symbols, so no more are looked at.
+fn capped(n: usize) -> usize
+    ensures { λ r. ⌜ r ≡ min n 16 ⌝ }
+{
+    if n < 16 { n } else { 16 }
+}
+
+// How often each symbol up to 16 occurs from the index a up to n; the last entry counts the larger ones.
+pub fn counts(w: [u8; 16], a: usize, n: usize) -> [u8; 18]
+    ensures { λ r. ⌜ r ≡ tally (drop a (take n w)) ⌝ }
+{
+    let end = capped(n);
+    let mut t = [0u8; 18];
+    let mut i = a;
+    while i < end {
+        let v = slot(w[i]);
+        t[v] = t[v] + 1;
+        i += 1;
+    }
+    t
+}
+
+// Each symbol that the table has is one more than the number of places below it.
+fn ranked(t: [u8; 18]) -> bool
+    ensures { λ r. ⌜ Says r (Ranked t 17) ⌝ }
+{
+    let mut seen: usize = 0;
+    let mut v = 0;
+    while v < 17 {
+        if (t[v] != 0) & (v != seen + 1) {
+            return false;
+        }
+        seen += t[v] as usize;
+        v += 1;
+    }
+    true
+}
+
+// With each symbol the table has the one below it.
+fn unbroken(t: [u8; 18]) -> bool
+    ensures { λ r. ⌜ Says r (Unbroken t 16) ⌝ }
+{
+    let mut v = 0;
+    while v < 16 {
+        if (t[v] == 0) & (t[v + 1] != 0) {
+            return false;
+        }
+        v += 1;
+    }
+    true
+}
+
+// The first n symbols are a weak order of n in rank form.
+pub fn is_rank(w: [u8; 16], n: usize) -> bool
+    ensures { λ r. ⌜ r ≡ isRankWindow n w ⌝ }
+{
+    if n == 0 {
+        return false;
+    }
+    if 16 < n {
+        return false;
+    }
+    let t = counts(w, 0, n);
+    if t[17] != 0 {
+        return false;
+    }
+    ranked(t)
+}
+
+// The first n symbols are a weak order of n in height form.
+pub fn is_height(w: [u8; 16], n: usize) -> bool
+    ensures { λ r. ⌜ r ≡ isHeightWindow n w ⌝ }
+{
+    if n == 0 {
+        return false;
+    }
+    if 16 < n {
+        return false;
+    }
+    let t = counts(w, 0, n);
+    if t[17] != 0 {
+        return false;
+    }
+    unbroken(t)
+}
+
+// The first sixteen bytes of a slice as a window, with zeros behind.
+pub fn load(s: &[u8]) -> [u8; 16]
+    ensures { λ r. ⌜ r ≡ padded (take 16 (now (s .entry))) ⌝ }
+{
+    let end = capped(s.len());
+    let mut v = [0u8; 16];
+    let mut i = 0;
+    while i < end {
+        v[i] = s[i];
+        i += 1;
+    }
+    v
+}
+
+// The oldest of n symbols dropped and s appended, in a new array. Where n is no window's length, the array as it was.
+pub fn shift(w: [u8; 16], n: usize, s: u8) -> [u8; 16]
+    ensures { λ r. ⌜ r ≡ cond (isLength n) (padded (shifted (take n w) s)) w ⌝ }
+{
+    if n == 0 {
+        return w;
+    }
+    if 16 < n {
+        return w;
+    }
+    let mut v = [0u8; 16];
+    let mut i = 0;
+    while i < n - 1 {
+        v[i] = w[i + 1];
+        i += 1;
+    }
+    v[i] = s;
+    v
+}
+
+// A symbol below 32 as a bit; a larger one has none.
+fn bit_of(v: u8) -> u32
+    ensures { λ r. ⌜ r ≡ bitOf v ⌝ }
+{
+    if v < 32 { 1u32 << v } else { 0 }
+}
+
+// The symbols among the first n, each a bit.
+pub fn present(w: [u8; 16], n: usize) -> u32
+    ensures { λ r. ⌜ r ≡ bitsOf (take n w) ⌝ }
+{
+    let mut bits: u32 = 0;
+    let mut i = capped(n);
+    while 0 < i {
+        i -= 1;
+        bits = bit_of(w[i]) | bits;
+    }
+    bits
+}
+
+// How many different symbols below 32 are among the first n: all of them, in either form.
+pub fn different(w: [u8; 16], n: usize) -> u32
+    ensures { λ r. ⌜ r ≡ height (take n w) 32 ⌝ }
+{
+    u32::count_ones(present(w, n))
+}
+
+// The height of a symbol: how many of the symbols present are smaller.
+fn height_of(bits: u32, v: u8) -> u8
+    requires { ⌜ v < 32 ⌝ }
+    ensures { λ r. ⌜ r ≡ ones (bits % 2 ^ v) ⌝ }
+{
+    u32::count_ones(bits % (1u32 << v)) as u8
+}
+
+fn heights_of(w: [u8; 16], n: usize) -> [u8; 16]
+    requires { ⌜ isRankWindow n w ≡ true ⌝ }
+    ensures { λ r. ⌜ r ≡ padded (heights (take n w)) ⌝ }
+{
+    let bits = present(w, n);
+    let mut v = [0u8; 16];
+    let mut i = 0;
+    while i < n {
+        v[i] = height_of(bits, w[i]);
+        i += 1;
+    }
+    v
+}
+
+// 1 where a is smaller than b.
+fn less(a: u8, b: u8) -> u8
+    ensures { λ r. ⌜ r ≡ cond (ltb a b) 1 0 ⌝ }
+{
+    if a < b { 1 } else { 0 }
+}
+
+// The rank of a symbol: 1 plus the number of places that hold a smaller one.
+fn rank_of(w: [u8; 16], n: usize, v: u8) -> u8
+    requires { ⌜ n ≤ 16 ⌝ }
+    ensures { λ r. ⌜ r ≡ suc (below (take n w) v) ⌝ }
+{
+    let mut r: u8 = 1;
+    let mut i = 0;
+    while i < n {
+        r = r + less(w[i], v);
+        i += 1;
+    }
+    r
+}
+
+fn ranks_of(w: [u8; 16], n: usize) -> [u8; 16]
+    requires { ⌜ n ≤ 16 ⌝ }
+    ensures { λ r. ⌜ r ≡ padded (ranks (take n w)) ⌝ }
+{
+    let mut v = [0u8; 16];
+    let mut i = 0;
+    while i < n {
+        v[i] = rank_of(w, n, w[i]);
+        i += 1;
+    }
+    v
+}
+
+// What a conversion gives: a window, or none where there was none in the form converted from.
+pub struct Converted {
+    pub done: bool,
+    pub window: [u8; 16],
+}
+
+// From rank form to height form.
+pub fn rank_to_height(w: [u8; 16], n: usize) -> Converted
+    ensures { λ r. ⌜ r ≡ rankToHeight n w ⌝ }
+{
+    if !is_rank(w, n) {
+        return Converted {
+            done: false,
+            window: [0u8; 16],
+        };
+    }
+    let v = heights_of(w, n);
+    Converted {
+        done: true,
+        window: v,
+    }
+}
+
+// From height form to rank form.
+pub fn height_to_rank(w: [u8; 16], n: usize) -> Converted
+    ensures { λ r. ⌜ r ≡ heightToRank n w ⌝ }
+{
+    if !is_height(w, n) {
+        return Converted {
+            done: false,
+            window: [0u8; 16],
+        };
+    }
+    let v = ranks_of(w, n);
+    Converted {
+        done: true,
+        window: v,
+    }
+}

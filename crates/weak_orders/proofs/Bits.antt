@@ -1,0 +1,103 @@
+-- Sets of symbols as bits: bit v is set where v occurs, so the ones below bit k are the different symbols below k. Assumes nothing.
+use mathlib.Core.Bool.{true, false, cond}
+use mathlib.Core.List.{List, [], _∷_, List·Memᴰ·head}
+use mathlib.Core.Path.{_≡_, refl, sym, ap, ap₂, subst, _∙_}
+use Prim.Native.Nat.{ℕ, zero, suc, _+_, _*_, _/_, _%_, _^_, max, _<_, _≤_}
+use native.Mathlib.Nat.{pow-suc, div-one, div-eq-of-lt, mul-div-mul-right, mod-lt, mod-one, mod-eq-of-lt, one-mul, zero-div}
+use native.Mathlib.Omega.{arith}
+use native.Mathlib.Decide.{decLt, ℕ-discrete}
+use lib.Arith.{digits-mod}
+use lib.Bits.{bitOr, or-step, or-shr, or-lt, shifted-even}
+use lib.Count.{ones, ones-cat}
+use lib.Dec.{eqb, eqb·zero-suc, eqb·suc-zero, eqb·suc-suc, lit<, ltb}
+use lib.ListN.{length}
+use lib.Pow.{pow-pos, pow-lt, mod-pow-add}
+use borrow.Author.Tests.{lt-ltb, le-ltb, eq-eqb, ne-eqb}
+use Rattle.weak_orders.specs.Window.{num, occurs, height, different}
+use Rattle.weak_orders.specs.Tables.{bitOf, bitsOf}
+use Rattle.weak_orders.proofs.Tests.{bit, bit≤1}
+use Rattle.weak_orders.proofs.Symbols.{occurs-in, added-front, height-zero, height-suc, bound, different-below}
+
+abbrev digit : ℕ → ℕ → ℕ
+digit b u = b / 2 ^ u % 2
+
+-- the digits of a power of two
+digit-pow : (x u : ℕ) → digit (2 ^ x) u ≡ bit (eqb u x)
+digit-pow zero zero = refl
+digit-pow zero (suc u) = rw (eqb·suc-zero, div-eq-of-lt {n = 1} {m = 2 ^ suc u} (pow-lt {i = 0} {j = suc u} (omega arith)))
+digit-pow (suc x) zero = rw (eqb·zero-suc, div-one (2 ^ suc x), ← one-mul (2 ^ suc x)) (shifted-even 1 x)
+digit-pow (suc x) (suc u) =
+    rw (eqb·suc-suc, pow-suc 2 x, pow-suc 2 u, mul-div-mul-right {m = 2} (2 ^ x) (2 ^ u) (lit< tt)) (digit-pow x u)
+
+-- the digits of a union
+max-two : (a b : ℕ) → a < 2 → b < 2 → max a b < 2
+max-two a b h k = omega arith
+
+odd-or : (a b : ℕ) → bitOr a b % 2 ≡ max (a % 2) (b % 2)
+odd-or a b = rw (or-step a b) (digits-mod (bitOr (a / 2) (b / 2)) (max-two (a % 2) (b % 2) (mod-lt a (lit< tt)) (mod-lt b (lit< tt))))
+
+digit-or : (a b u : ℕ) → digit (bitOr a b) u ≡ max (digit a u) (digit b u)
+digit-or a b u = rw (or-shr a b u) (odd-or (a / 2 ^ u) (b / 2 ^ u))
+
+-- the digits of a symbol's bit, and of a set of symbols
+digit-bitOf : (x u : ℕ) → u < 32 → digit (bitOf x) u ≡ bit (eqb u x)
+unfolding bitOf
+digit-bitOf x u h = elim (decLt x 32) [
+  | yes l ↦ rw (lt-ltb x 32 l) (digit-pow x u)
+  | no l ↦ rw (le-ltb x 32 (omega arith), zero-div (2 ^ u), ne-eqb u x (λ e. omega arith))
+]
+
+occurs-front : (x : ℕ) (l : List ℕ) (u : ℕ) → bit (occurs (x ∷ l) u) ≡ max (bit (eqb u x)) (bit (occurs l u))
+occurs-front x l u = elim (ℕ-discrete u x) [
+  | yes e ↦ rw (eq-eqb u x e, occurs-in {w = x ∷ l} {v = u} (List·Memᴰ·head e)) (let b = bit≤1 (occurs l u) in omega arith)
+  | no ne ↦ rw (ne-eqb u x ne, added-front l x .old u ne) (let b = bit≤1 (occurs l u) in omega arith)
+]
+
+pub digit-bitsOf : (l : List ℕ) (u : ℕ) → u < 32 → bitsOf l / 2 ^ u % 2 ≡ bit (occurs l u)
+unfolding bitsOf
+digit-bitsOf [] u h = rw (zero-div (2 ^ u)) (unfold occurs num in refl)
+digit-bitsOf (x ∷ l) u h = digit-or (bitOf x) (bitsOf l) u ∙ ap₂ max (digit-bitOf x u h) (digit-bitsOf l u h) ∙ sym (occurs-front x l u)
+
+-- one more digit: one more where it is set
+ones-digit : (d : ℕ) → d < 2 → ones d ≡ d
+unfolding ones
+ones-digit zero h = refl
+ones-digit (suc zero) h = refl
+ones-digit (suc (suc d)) h = absurd (omega arith)
+
+ones-more : (b k : ℕ) → ones (b % 2 ^ suc k) ≡ ones (b % 2 ^ k) + b / 2 ^ k % 2
+ones-more b k =
+    let e : 1 + k ≡ suc k = omega arith in
+    let split : b % 2 ^ suc k ≡ b / 2 ^ k % 2 * 2 ^ k + b % 2 ^ k = rw (← e) (mod-pow-add b 1 k) in
+    omega (
+      arith,
+      ap ones split,
+      ones-cat k (b / 2 ^ k % 2) (b % 2 ^ k) (mod-lt b (pow-pos k)),
+      ones-digit (b / 2 ^ k % 2) (mod-lt (b / 2 ^ k) (lit< tt)),
+    )
+
+-- the ones below bit k are the different symbols below k
+pub ones-height : (l : List ℕ) (k : ℕ) → k ≤ 32 → ones (bitsOf l % 2 ^ k) ≡ height l k
+ones-height l zero h = rw (mod-one (bitsOf l), height-zero l) (ones-digit 0 (omega arith))
+ones-height l (suc k) h = omega (
+  arith,
+  ones-more (bitsOf l) k,
+  digit-bitsOf l k (omega arith),
+  height-suc l k,
+  ones-height l k (omega arith),
+)
+
+pub bitsOf-small : (l : List ℕ) → bitsOf l < 2 ^ 32
+unfolding bitsOf bitOf
+bitsOf-small [] = lit< tt
+bitsOf-small (x ∷ l) = or-lt 32 (bitOf x) (bitsOf l) small (bitsOf-small l)
+  where
+    small : bitOf x < 2 ^ 32
+    small = elim (decLt x 32) [ yes h ↦ rw (lt-ltb x 32 h) (pow-lt h) | no h ↦ rw (le-ltb x 32 (omega arith)) (lit< tt) ]
+
+pub ones-all : (l : List ℕ) → ones (bitsOf l) ≡ height l 32
+ones-all l = ap ones (sym (mod-eq-of-lt (bitsOf-small l))) ∙ ones-height l 32 (omega arith)
+
+-- which are all of them where every symbol is below 32
+pub different-ones : (l : List ℕ) → bound l ≤ 32 → height l 32 ≡ different l
+different-ones l h = different-below l 32 h
