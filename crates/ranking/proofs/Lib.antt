@@ -9,4 +9,5 @@ pub mod Places
 pub mod WindowAt
 pub mod Tabled
 pub mod Prefixes
-pub mod Scans
+pub mod Following
+pub mod Loops

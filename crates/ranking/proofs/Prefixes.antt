@@ -2,7 +2,7 @@
 use mathlib.Core.Bool.{Bool, true, false, _&&_, and-true, and-false, and-eq-true-iff, false≢true}
 use mathlib.Core.List.{List, [], _∷_, _++_}
 use mathlib.Core.Path.{_≡_, refl, sym, ap, ap₂, _∙_}
-use Prim.Native.Nat.{ℕ, suc, pred, max, _+_, _-_, _≤_, _<_}
+use Prim.Native.Nat.{ℕ, suc, max, _+_, _-_, _≤_, _<_}
 use native.Mathlib.Nat.{zero-add, suc-add}
 use native.Mathlib.Omega.{arith}
 use native.Mathlib.Decide.{decLe}
@@ -13,10 +13,10 @@ use Rattle.weak_orders.specs.Window.{count, occurs, different, isHeight}
 use Rattle.weak_orders.proofs.HeightForm.{height-bound}
 use Rattle.weak_orders.proofs.Lists.{count-cong, count-none}
 use Rattle.weak_orders.proofs.Symbols.{bound, bound-back, different≤bound, different≤length, different-old, different-new}
-use Rattle.weak_orders.proofs.Tests.{_∈_, by-test}
-use Rattle.ranking.specs.Counts.{sum, waysFrom}
+use Rattle.weak_orders.proofs.Tests.{by-test, bit}
+use Rattle.ranking.specs.Counts.{sum, a, waysFrom}
 use Rattle.ranking.specs.Dictionary.{strings, heightWindows, begins, completions}
-use Rattle.ranking.proofs.Completions.{of-strings, count-strings, fillings, endings, endings-ways}
+use Rattle.ranking.proofs.Completions.{of-strings, count-strings, fillings, endings, endings-suc, endings-zero, endings-ways, endings-all}
 use Rattle.ranking.proofs.CountLaws.{waysFrom-none, waysFrom-split}
 use Rattle.ranking.proofs.Listing.{of-select, count-select}
 use Rattle.ranking.proofs.Sums.{sum-cong, sum-single}
@@ -59,11 +59,24 @@ completions-endings n p r h e = count-select isHeight (begins p) (strings n n)
     ∙ ap (λ m. count (λ w. isHeight w && begins p w) (strings m n)) (sym e)
     ∙ begins-fillings isHeight n p r h
 
--- the completions for each symbol behind p, and their sums
+-- with one symbol behind p or another; or none, where p is n long
 pub sum-endings : (n : ℕ) (p : List ℕ) (r : ℕ) → bound p ≤ n → length p + suc r ≡ n → (x : ℕ) → x ≤ n →
     sum (λ v. endings n (p ++ (v ∷ [])) r) x ≡ sum (λ v. completions n (p ++ (v ∷ []))) x
 sum-endings n p r h e x l = sum-cong (λ v. endings n (p ++ (v ∷ [])) r) (λ v. completions n (p ++ (v ∷ []))) x (λ v l′.
     sym (completions-endings n (p ++ (v ∷ [])) r (omega (arith, bound-back p v)) (omega (arith, length-append p (v ∷ [])))))
+
+pub completions-suc : (n : ℕ) (p : List ℕ) → bound p ≤ n → length p < n → completions n p ≡ sum (λ v. completions n (p ++ (v ∷ []))) n
+completions-suc n p h l =
+    let r = n - suc (length p) in
+    let e : length p + suc r ≡ n = omega arith in
+    completions-endings n p (suc r) h e ∙ endings-suc n p r ∙ sum-endings n p r h e n (omega arith)
+
+pub completions-full : (n : ℕ) (p : List ℕ) → bound p ≤ n → length p ≡ n → completions n p ≡ bit (isHeight p)
+completions-full n p h e = completions-endings n p 0 h (omega arith) ∙ endings-zero n p
+
+pub completions-all : (n : ℕ) → completions n [] ≡ a n
+unfolding bound
+completions-all n = completions-endings n [] n (omega arith) (omega arith) ∙ endings-all n
 
 -- the heights missing below the largest symbol of p, and any number more, go into the places that are left
 pub completions-ways : (n : ℕ) (p : List ℕ) → length p ≤ n →
@@ -86,16 +99,16 @@ module _ (n : ℕ) (p : List ℕ) (v : ℕ) (h : length p < n) where
   completions-old o = by-ways (different p) (different-old p v o)
 
   pub completions-new : occurs p v ≡ false → (m : ℕ) → m ≡ max (bound p) (suc v) - different p →
-      completions n (p ++ (v ∷ [])) ≡ waysFrom (n - suc (length p)) (pred m) (different p) + waysFrom (n - suc (length p)) m (different p)
+      completions n (p ++ (v ∷ [])) ≡ waysFrom (n - suc (length p)) (m - 1) (different p) + waysFrom (n - suc (length p)) m (different p)
   completions-new o m e =
       let r = n - suc (length p) in
       let d = different p in
       let up = different≤bound (p ++ (v ∷ [])) in
-      let (e₀, e₁) : (max (bound p) (suc v) - suc d ≡ pred m) × (suc (pred m) ≡ m) = omega (arith, bound-back p v, different-new p v o) in
+      let (e₀, e₁) : (max (bound p) (suc v) - suc d ≡ m - 1) × (suc (m - 1) ≡ m) = omega (arith, bound-back p v, different-new p v o) in
       omega (
         arith,
         by-ways (suc d) (different-new p v o),
         ap (λ k. waysFrom r k (suc d)) e₀,
-        waysFrom-split r (pred m) d,
+        waysFrom-split r (m - 1) d,
         ap (λ k. waysFrom r k d) e₁,
       )

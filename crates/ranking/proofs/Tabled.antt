@@ -25,6 +25,9 @@ entries-set t f k x h e i others = elim (ℕ-discrete i k) [
   | no ne ↦ getD-set-other t k i x 0 ne ∙ others ne
 ]
 
+pub entries-more : (t : List ℕ) (f : ℕ → ℕ) (k x : ℕ) → k < length t → x ≡ f k → Entries t f k → Entries (set t k x) f (k + 1)
+entries-more t f k x h e below i l = entries-set t f k x h e i (λ ne. below i (omega arith))
+
 module _ (t : List ℕ) (h : isCountTable t ≡ true) where
   by-recurrence : (n k : ℕ) → n ≤ 16 → k ≤ 16 → getD t (n * 17 + k) 0 ≡ recurrence t n k
   unfolding isCountTable

@@ -39,3 +39,7 @@ begins (x ∷ p) (y ∷ w) = eqb x y && begins p w
 unfoldable pub completions : ℕ → List ℕ → ℕ
 unfolding count begins heightWindows
 completions n p = count (begins p) (heightWindows n)
+
+-- those in which v comes next
+abbrev pub completionsWith : ℕ → List ℕ → ℕ → ℕ
+completionsWith n p v = completions n (p ++ (v ∷ []))

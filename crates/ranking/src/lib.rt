@@ -2,15 +2,15 @@
 // "Place"). Rests on weak_orders. Completions of a prefix are counted, never listed. Knows no rule and no session; a rank window has
 // the place of its heights, and is converted by the caller.
 ghost use mathlib.Core.Bool.{cond, true, false, _&&_};
-ghost use mathlib.Core.List.{[], _∷_, _++_};
 ghost use mathlib.Core.Path.{_≡_};
 ghost use Prim.Native.Nat.{ℕ, max, _+_, _-_, _^_, _≤_, _<_};
 ghost use lib.Dec.{leb};
 ghost use lib.ListN.{getD, take};
-ghost use Rattle.weak_orders.specs.Window.{occurs, different, isHeight, isLength, padded};
+ghost use Rattle.weak_orders.specs.Converted.{isHeightWindow};
+ghost use Rattle.weak_orders.specs.Window.{padded};
 ghost use Rattle.weak_orders.proofs.Symbols.{bound};
 ghost use Rattle.ranking.specs.Counts.{L, a, sum, ways, waysFrom, Found};
-ghost use Rattle.ranking.specs.Dictionary.{completions, place, windowAt};
+ghost use Rattle.ranking.specs.Dictionary.{completionsWith, place, windowAt};
 ghost use Rattle.ranking.specs.Tables.{Entries};
 
 mod tables;
@@ -92,37 +92,6 @@ fn ways_from(rest: u64, present: u64) -> [u64; 17]
     totals
 }
 
-// v is among the first i symbols.
-fn occurs(w: [u8; 16], i: usize, v: u8) -> bool
-    requires { ⌜ i ≤ 16 ⌝ }
-    ensures { λ r. ⌜ r ≡ occurs (take i w) v ⌝ }
-{
-    let mut j = 0;
-    while j < i {
-        if w[j] == v {
-            return true;
-        }
-        j += 1;
-    }
-    false
-}
-
-// How many different symbols are among the first i.
-fn different(w: [u8; 16], i: usize) -> usize
-    requires { ⌜ i ≤ 16 ⌝ }
-    ensures { λ r. ⌜ r ≡ different (take i w) ⌝ }
-{
-    let mut d = 0;
-    let mut j = 0;
-    while j < i {
-        if !occurs(w, j, w[j]) {
-            d += 1;
-        }
-        j += 1;
-    }
-    d
-}
-
 fn larger(x: usize, y: usize) -> usize
     ensures { λ r. ⌜ r ≡ max x y ⌝ }
 {
@@ -158,16 +127,17 @@ fn with_symbol(totals: [u64; 17], missing: usize, held: bool) -> u64
 // For each symbol v below n: the completions of the first i symbols of w with v behind them.
 fn continuations(w: [u8; 16], n: usize, i: usize) -> [u64; 16]
     requires { ⌜ (i < n) × (n ≤ 16) × (bound (take i w) ≤ n) ⌝ }
-    ensures { λ r. ⌜ Entries r (λ v. completions n (take i w ++ (v ∷ []))) n ⌝ }
+    ensures { λ r. ⌜ Entries r (completionsWith n (take i w)) n ⌝ }
 {
-    let present = different(w, i);
+    let present = weak_orders::different(w, i) as usize;
+    let seen = weak_orders::counts(w, 0, i);
     let top = bound(w, i);
     let totals = ways_from((n - 1 - i) as u64, present as u64);
     let mut counts = [0u64; 16];
     let mut v: usize = 0;
     while v < n {
         let missing = larger(top, v + 1) - present;
-        counts[v] = with_symbol(totals, missing, occurs(w, i, v as u8));
+        counts[v] = with_symbol(totals, missing, 0 < seen[v]);
         v += 1;
     }
     counts
@@ -189,7 +159,7 @@ fn sum_below(counts: [u64; 16], v: usize) -> u64
 
 // The place of a height window: for each symbol, the completions of those before it with a smaller one behind.
 fn place_of(w: [u8; 16], n: usize) -> u64
-    requires { ⌜ (isLength n ≡ true) × (isHeight (take n w) ≡ true) ⌝ }
+    requires { ⌜ isHeightWindow n w ≡ true ⌝ }
     ensures { λ r. ⌜ r ≡ place (take n w) ⌝ }
 {
     let mut before = 0;
@@ -210,7 +180,7 @@ struct Next {
 // The symbol of the window at the place left, where counts says how many windows go on with each symbol below n.
 fn symbol_at(counts: [u64; 16], n: usize, left: u64) -> Next
     requires { ⌜ (n ≤ 16) × (left < sum (λ u. getD counts u 0) n) ⌝ }
-    ensures { λ r. ⌜ Found (λ u. getD counts u 0) left (r .symbol) (r .left) ⌝ }
+    ensures { λ r. ⌜ (r .symbol < n) × Found (λ u. getD counts u 0) left (r .symbol) (r .left) ⌝ }
 {
     let mut rest = left;
     let mut v: usize = 0;
@@ -226,7 +196,7 @@ fn symbol_at(counts: [u64; 16], n: usize, left: u64) -> Next
 
 // The window at a place, symbol by symbol.
 fn window_of(n: usize, place: u64) -> [u8; 16]
-    requires { ⌜ (isLength n ≡ true) × (place < a n) ⌝ }
+    requires { ⌜ (n ≤ 16) × (place < a n) ⌝ }
     ensures { λ r. ⌜ r ≡ padded (windowAt n place) ⌝ }
 {
     let mut window = [0u8; 16];

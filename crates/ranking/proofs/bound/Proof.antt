@@ -5,8 +5,8 @@ use native.Mathlib.Omega.{arith}
 use mir.Syntax.{w8}
 use mir.Val.{Fits}
 use lib.ListN.{length, take, getD}
-use Rattle.weak_orders.proofs.Symbols.{bound as boundOf}
-use Rattle.ranking.proofs.Scans.{bound-more}
+use Rattle.weak_orders.proofs.Parts.{part-more}
+use Rattle.weak_orders.proofs.Symbols.{bound as boundOf, bound-back}
 use borrow.Author.Needs.{needs}
 use Rattle.ranking.proofs.bound.Statement.{statement}
 use Rattle.ranking.proofs.bound.Tie as tie
@@ -50,10 +50,9 @@ loop-again : tie.Need-loop-again Inv-loop μ-loop
 loop-again c =
     let w = c .before .before .before .args .t1 in
     let j = c .before .before .loop .j in
-    let l : length w ≡ 16 = search needs in (
-      search needs,
-      c .larger .ensures ∙ ap (λ b. max b (getD w j 0 + 1)) (c .before .before .loop .inv .1) ∙ sym (bound-more w j (omega arith)),
-    )
+    let l : length w ≡ 16 = search needs in
+    let next = ap boundOf (part-more w 0 j (omega arith) (omega arith)) ∙ bound-back (take j w) (getD w j 0) in
+    (search needs, omega (arith, next, c .larger .ensures, c .before .before .loop .inv .1))
 
 returns : tie.Need-returns Inv-loop μ-loop
 returns c =

@@ -1,91 +1,127 @@
+-- `ranking::continuations` meets its contract. The loop's invariant: the first v counts are right, in terms of what was found out about
+-- the prefix (`Known`). Assumes nothing.
+use mathlib.Core.Path.{_≡_, refl, sym, ap, _∙_}
+use Prim.Native.Nat.{ℕ, suc, max, _+_, _-_, _≤_, _<_}
+use native.Mathlib.Omega.{arith}
+use lib.ListN.{length, take, length-take}
+use Rattle.weak_orders.specs.Window.{different}
+use Rattle.weak_orders.proofs.Symbols.{different-below, different≤length}
+use Rattle.ranking.specs.Counts.{waysFrom}
+use Rattle.ranking.specs.Tables.{Entries}
+use Rattle.ranking.proofs.Following.{Known, counted, symbols≤top, ways-fit, missing<17, missing-itself, counted-completions}
+use Rattle.ranking.proofs.Tabled.{entries-more}
+use borrow.Author.Needs.{needs}
 use Rattle.ranking.proofs.continuations.Statement.{statement}
 use Rattle.ranking.proofs.continuations.Tie as tie
 use Rattle.ranking.proofs.continuations.Reads as reads
 use Rattle.ranking.proofs.continuations.Lts as lts
 use Rattle.ranking.proofs.bound.Reads as bound-reads
-use Rattle.ranking.proofs.different.Reads as different-reads
 use Rattle.ranking.proofs.larger.Reads as larger-reads
-use Rattle.ranking.proofs.occurs.Reads as occurs-reads
 use Rattle.ranking.proofs.ways_from.Reads as ways-from-reads
 use Rattle.ranking.proofs.with_symbol.Reads as with-symbol-reads
+use Rattle.weak_orders.proofs.counts.Reads as counts-reads
+use Rattle.weak_orders.proofs.different.Reads as different-reads
 
 abbrev Inv-loop : tie.InvT-loop
-Inv-loop w n i present top totals counts₀ v₀ counts v = ?
+Inv-loop n i present seen top totals counts₀ v₀ counts v = (v ≤ n) × (length counts ≡ 16) × Entries counts (counted seen top present totals) v
 
 abbrev μ-loop : tie.MeasureT-loop
-μ-loop w n i present top totals counts₀ v₀ counts v = ?
+μ-loop n i present seen top totals counts₀ v₀ counts v = n - v
 
--- src/lib.rt:163:9
+-- what was found out about the prefix
+symbols : (s : tie.After-different Inv-loop μ-loop) → s .different .result ≡ different (take (s .before .args .i) (s .before .args .w))
+symbols s =
+    let p = take (s .before .args .i) (s .before .args .w) in
+    s .different .ensures ∙ different-below p 32 (omega (arith, s .before .pre .1, s .before .pre .2))
+
+long : (s : tie.Start Inv-loop μ-loop) → length (take (s .args .i) (s .args .w)) ≡ s .args .i
+long s = let l : length (s .args .w) ≡ 16 = search needs in omega (arith, length-take (s .args .i) (s .args .w))
+
+known : (s : tie.After-ways-from Inv-loop μ-loop) →
+    let a = s .before .before .before .before .args in
+    Known (a .n) (take (a .i) (a .w)) (s .before .before .counts .result) (s .before .bound .result)
+    (s .before .before .before .different .result) (s .ways-from .result)
+known s =
+    let t = s .before .before .before .before in
+    let l = long t in
+    record {
+      short = omega arith;
+      few = t .pre .1;
+      low = t .pre .2;
+      occurring = s .before .before .counts .ensures;
+      largest = s .before .bound .ensures;
+      symbols = symbols (s .before .before .before);
+      ways = λ m h. s .ways-from .ensures m h ∙ ap (λ r. waysFrom r m (s .before .before .before .different .result)) (omega arith);
+    }
+
 different-requires : tie.Need-different-requires Inv-loop μ-loop
-different-requires c κs = ?
+different-requires c κs = search needs
 
--- src/lib.rt:164:9
+cast-present : tie.Need-cast-present Inv-loop μ-loop
+cast-present c = search needs
+
+counts-requires : tie.Need-counts-requires Inv-loop μ-loop
+counts-requires c κs = search needs
+
 bound-requires : tie.Need-bound-requires Inv-loop μ-loop
-bound-requires c κs = ?
+bound-requires c κs = search needs
 
--- src/lib.rt:165:29
 sub-ways-from : tie.Need-sub-ways-from Inv-loop μ-loop
-sub-ways-from c = ?
+sub-ways-from c = search needs
 
--- src/lib.rt:165:29
 sub-ways-from-2 : tie.Need-sub-ways-from-2 Inv-loop μ-loop
-sub-ways-from-2 c = ?
+sub-ways-from-2 c = search needs
 
--- src/lib.rt:165:9
 ways-from-requires : tie.Need-ways-from-requires Inv-loop μ-loop
-ways-from-requires c κs = ?
+ways-from-requires c κs =
+    let t = c .before .before .before in
+    omega (arith, symbols (c .before .before), long t, different≤length (take (t .args .i) (t .args .w)))
 
--- src/lib.rt:168:5
 loop-holds : tie.Need-loop-holds Inv-loop μ-loop
-loop-holds c = ?
+loop-holds c = (search needs, refl, λ i h. absurd (omega arith))
 
--- src/lib.rt:169:35
 add-larger : tie.Need-add-larger Inv-loop μ-loop
-add-larger c = ?
+add-larger c = search needs
 
--- src/lib.rt:169:23
 larger-requires : tie.Need-larger-requires Inv-loop μ-loop
-larger-requires c κs = ?
+larger-requires c κs = search needs
 
--- src/lib.rt:169:23
 sub-missing : tie.Need-sub-missing Inv-loop μ-loop
-sub-missing c = ?
+sub-missing c = omega (arith, symbols≤top _ _ _ _ _ _ (known (c .before .before .before)), c .larger .ensures)
 
--- src/lib.rt:170:63
-cast-occurs : tie.Need-cast-occurs Inv-loop μ-loop
-cast-occurs c = ?
+array-read-with-symbol : tie.Need-array-read-with-symbol Inv-loop μ-loop
+array-read-with-symbol c = search needs
 
--- src/lib.rt:170:50
-occurs-requires : tie.Need-occurs-requires Inv-loop μ-loop
-occurs-requires c κs = ?
-
--- src/lib.rt:170:21
 with-symbol-requires : tie.Need-with-symbol-requires Inv-loop μ-loop
-with-symbol-requires c κs = ?
+with-symbol-requires c κs =
+    let K = known (c .before .before .before) in
+    let v = c .before .before .loop .v in
+    rw (c .larger .ensures) (missing<17 _ _ _ _ _ _ K v (search needs), missing-itself _ _ _ _ _ _ K v (search needs), ways-fit _ _ _ _ _ _ K)
 
--- src/lib.rt:170:9
 mul-counts : tie.Need-mul-counts Inv-loop μ-loop
-mul-counts c = ?
+mul-counts c = search needs
 
--- src/lib.rt:170:9
 array-write-counts : tie.Need-array-write-counts Inv-loop μ-loop
-array-write-counts c = ?
+array-write-counts c = search needs
 
--- src/lib.rt:171:9
 add-v : tie.Need-add-v Inv-loop μ-loop
-add-v c = ?
+add-v c = search needs
 
--- src/lib.rt:168:5
 loop-less : tie.Need-loop-less Inv-loop μ-loop
-loop-less c = ?
+loop-less c = search needs
 
--- src/lib.rt:168:5
 loop-again : tie.Need-loop-again Inv-loop μ-loop
-loop-again c = ?
+loop-again c =
+    let s = c .before .before .before .before in
+    let f = counted (s .before .before .counts .result) (s .before .bound .result) (s .before .before .before .different .result)
+    (s .ways-from .result) in
+    let v = c .before .before .before .loop .v in
+    let e : c .with-symbol .result ≡ f v = rw (c .before .larger .ensures) at (c .with-symbol .ensures) in
+    let was = c .before .before .before .loop .inv .2 in
+    (search needs, search needs, entries-more (c .before .before .before .loop .counts) f v (c .with-symbol .result) (omega arith) e was)
 
--- src/lib.rt:159:1
 returns : tie.Need-returns Inv-loop μ-loop
-returns c = ?
+returns c = λ v h. c .before .loop .inv .2 v (omega arith) ∙ counted-completions _ _ _ _ _ _ (known (c .before .before)) v h
 
 pub continuations-spec : {M : Type 1} → statement M
 continuations-spec =
@@ -94,6 +130,8 @@ continuations-spec =
     Inv-loop
     μ-loop
     different-requires
+    cast-present
+    counts-requires
     bound-requires
     sub-ways-from
     sub-ways-from-2
@@ -102,8 +140,7 @@ continuations-spec =
     add-larger
     larger-requires
     sub-missing
-    cast-occurs
-    occurs-requires
+    array-read-with-symbol
     with-symbol-requires
     mul-counts
     array-write-counts

@@ -1,48 +1,45 @@
+-- `ranking::with_symbol` meets its contract: an answer for each case. Assumes nothing.
+use mathlib.Core.Path.{_≡_}
+use Prim.Native.Nat.{_≤_, _-_, _<_}
+use native.Mathlib.Omega.{arith}
 use borrow.Author.Needs.{needs}
 use Rattle.ranking.proofs.with_symbol.Statement.{statement}
 use Rattle.ranking.proofs.with_symbol.Tie as tie
 use Rattle.ranking.proofs.with_symbol.Reads as reads
 use Rattle.ranking.proofs.with_symbol.Lts as lts
 
--- src/lib.rt:153:16
 mul-result : tie.Need-mul-result
 mul-result c = search needs
 
--- src/lib.rt:153:16
 array-read-result : tie.Need-array-read-result
 array-read-result c = search needs
 
--- src/lib.rt:153:9
 returns : tie.Need-returns
-returns c = ?
+returns c = rw (c .if1 .taken)
 
--- src/lib.rt:155:12
 sub-result : tie.Need-sub-result
-sub-result c = ?
+sub-result c = c .before .pre .1 (c .if1 .left)
 
--- src/lib.rt:155:5
 mul-result-2 : tie.Need-mul-result-2
 mul-result-2 c = search needs
 
--- src/lib.rt:155:5
 array-read-result-2 : tie.Need-array-read-result-2
 array-read-result-2 c = search needs
 
--- src/lib.rt:155:27
 mul-result-3 : tie.Need-mul-result-3
 mul-result-3 c = search needs
 
--- src/lib.rt:155:27
 array-read-result-3 : tie.Need-array-read-result-3
 array-read-result-3 c = search needs
 
--- src/lib.rt:155:5
 add-result : tie.Need-add-result
-add-result c = ?
+add-result c =
+    let m = c .before .args .missing in
+    let fit = c .before .pre .2 in
+    record { fits = omega (arith, fit m (search needs), fit (m - 1) (omega arith)) }
 
--- src/lib.rt:148:1
 returns-2 : tie.Need-returns-2
-returns-2 c = ?
+returns-2 c = rw (c .if1 .left)
 
 pub with-symbol-spec : {M : Type 1} → statement M
 with-symbol-spec =
