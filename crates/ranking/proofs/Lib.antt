@@ -11,3 +11,4 @@ pub mod Tabled
 pub mod Prefixes
 pub mod Following
 pub mod Loops
+pub mod Answered

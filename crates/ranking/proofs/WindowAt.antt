@@ -71,13 +71,13 @@ module _ (n : ℕ) (p : List ℕ) (h : bound p ≤ n) (l : length p < n) (k : �
       ap (λ v. v ∷ windowFrom n (p ++ (v ∷ [])) r (k - sum (completionsWith n p) v)) e ∙ ap (λ m. v ∷ windowFrom n (p ++ (v ∷ [])) r m) e′
 
 -- s makes p a height window, and stands at the place k among those that do
-pub record Placed (n : ℕ) (p : List ℕ) (r k : ℕ) (s : List ℕ) : Type 0 where
+pub record Standing (n : ℕ) (p : List ℕ) (r k : ℕ) (s : List ℕ) : Type 0 where
   pub long : length s ≡ r
   pub low : bound s ≤ n
   pub form : isHeight (p ++ s) ≡ true
   pub at : placeFrom n p s ≡ k
 
-pub windowFrom-placed : (n : ℕ) (p : List ℕ) (r k : ℕ) → bound p ≤ n → length p + r ≡ n → k < completions n p → Placed n p r k (windowFrom n p r k)
+pub windowFrom-placed : (n : ℕ) (p : List ℕ) (r k : ℕ) → bound p ≤ n → length p + r ≡ n → k < completions n p → Standing n p r k (windowFrom n p r k)
 unfolding windowFrom placeFrom bound
 windowFrom-placed n p zero k h e lt =
     let all = completions-full n p h (omega arith) in

@@ -2,3 +2,4 @@ pub mod Counts
 pub mod Dictionary
 pub mod Numbering
 pub mod Tables
+pub mod Answers

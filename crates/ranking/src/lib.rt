@@ -9,6 +9,7 @@ ghost use lib.ListN.{getD, take};
 ghost use Rattle.weak_orders.specs.Converted.{isHeightWindow};
 ghost use Rattle.weak_orders.specs.Window.{padded};
 ghost use Rattle.weak_orders.proofs.Symbols.{bound};
+ghost use Rattle.ranking.specs.Answers.{placed, located};
 ghost use Rattle.ranking.specs.Counts.{L, a, sum, ways, waysFrom, Found};
 ghost use Rattle.ranking.specs.Dictionary.{completionsWith, place, windowAt};
 ghost use Rattle.ranking.specs.Tables.{Entries};
@@ -209,4 +210,48 @@ fn window_of(n: usize, place: u64) -> [u8; 16]
         i += 1;
     }
     window
+}
+
+// The place of a window, or that it has none.
+pub enum Placed {
+    At(u64),
+    NotHeightForm,
+}
+
+// The place of the first n symbols of w in dictionary order, where they are a height window.
+pub fn place(w: [u8; 16], n: usize) -> Placed
+    ensures { λ r. ⌜ r ≡ placed n w ⌝ }
+{
+    if !weak_orders::is_height(w, n) {
+        return Placed::NotHeightForm;
+    }
+    Placed::At(place_of(w, n))
+}
+
+// The window at a place; not found, and sixteen zeros, where there is none.
+pub struct Located {
+    pub found: bool,
+    pub window: [u8; 16],
+}
+
+// The height window of n at a place. Past 16 there are no places.
+pub fn window_at(n: usize, place: u64) -> Located
+    ensures { λ r. ⌜ r ≡ located n place ⌝ }
+{
+    if n == 0 {
+        return Located {
+            found: false,
+            window: [0u8; 16],
+        };
+    }
+    if weak_order_count(n) <= place {
+        return Located {
+            found: false,
+            window: [0u8; 16],
+        };
+    }
+    Located {
+        found: true,
+        window: window_of(n, place),
+    }
 }
