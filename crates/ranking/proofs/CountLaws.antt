@@ -1,11 +1,14 @@
 -- Laws of the numbers: `ways`, `waysFrom`, L(n, k) and a(n). Assumes nothing.
+use mathlib.Core.Bool.{cond, _&&_}
 use mathlib.Core.Logic.{_≢_}
-use mathlib.Core.Path.{_≡_, refl, ap}
+use mathlib.Core.Path.{_≡_, refl, sym, ap, ap₂, _∙_}
 use Prim.Native.Nat.{ℕ, zero, suc, pred, _+_, _-_, _*_, _≤_, _<_, zero-le, suc-le-suc}
-use native.Mathlib.Nat.{add-zero, mul-zero, mul-le-mul-right}
+use native.Mathlib.Nat.{add-zero, mul-add, mul-assoc, mul-zero, mul-le-mul-right}
 use native.Mathlib.Decide.{decLe, le-ind}
 use native.Mathlib.Numerals.{add-one}
 use native.Mathlib.Omega.{arith}
+use lib.Dec.{leb}
+use borrow.Author.Tests.{le-leb, lt-leb}
 use Rattle.ranking.specs.Counts.{L, sum, a, ways, waysFrom}
 use Rattle.ranking.proofs.Sums.{sum-zero, sum-suc, sum-cong, sum-append}
 
@@ -16,6 +19,12 @@ ways-first zero m p h = absurd (h refl)
 ways-first (suc r) m p h =
     let (e₀, e₁, e₂) : (suc r - 1 ≡ r) × (m - 1 ≡ pred m) × (p + 1 ≡ suc p) = omega arith in
     rw (e₀, e₁, e₂)
+
+-- the same, for each of f fillings of the places before
+pub ways-after : (f r m p : ℕ) → r ≢ 0 → f * ways r m p ≡ f * m * ways (r - 1) (m - 1) (p + 1) + f * p * ways (r - 1) m p
+ways-after f r m p h =
+    let (x, y) : ℕ × ℕ = (ways (r - 1) (m - 1) (p + 1), ways (r - 1) m p) in
+    ap (f *_) (ways-first r m p h) ∙ mul-add f (m * x) (p * y) ∙ ap₂ _+_ (sym (mul-assoc f m x)) (sym (mul-assoc f p y))
 
 -- with none missing each place takes a present one
 pub ways-none-missing : (r p : ℕ) → ways r 0 p * p ≡ ways (r + 1) 0 p
@@ -29,6 +38,9 @@ ways-split zero zero p = refl
 ways-split zero (suc m) p = refl
 ways-split (suc r) zero p = omega (arith, ap (p *_) (ways-split r zero p))
 ways-split (suc r) (suc m) p = omega (arith, ap (p *_) (ways-split r (suc m) p), ap (suc m *_) (ways-split r m (suc p)))
+
+pub ways-one-missing : (r p : ℕ) → ways r 0 (p + 1) ≡ ways r 1 p + ways r 0 p
+ways-one-missing r p = ap (ways r 0) (add-one p) ∙ ways-split r 0 p
 
 pub L-ways : (n k : ℕ) → L n k ≡ ways n k 0
 unfolding L ways
@@ -52,6 +64,13 @@ unfolding ways
 ways-none r zero p h = absurd (omega arith)
 ways-none zero (suc m) p h = refl
 ways-none (suc r) (suc m) p h = rw (ways-none r m (suc p) (omega arith), ways-none r (suc m) p (omega arith), mul-zero, mul-zero)
+
+-- as the table has it, where r is in it
+pub table-or-none : (r m : ℕ) → r ≤ 16 → cond (leb r 16 && leb m 16) (L r m) 0 ≡ ways r m 0
+table-or-none r m h = elim (decLe m 16) [
+  | yes l ↦ rw (le-leb r 16 h, le-leb m 16 l) (L-ways r m)
+  | no l ↦ rw (le-leb r 16 h, lt-leb m 16 (omega arith)) (sym (ways-none r m 0 (omega arith)))
+]
 
 -- ---- m missing heights or more
 

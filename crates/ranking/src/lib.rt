@@ -55,31 +55,36 @@ fn none_missing(rest: u64, present: u64) -> u64
     total
 }
 
-// The ways to fill rest places where each of the missing heights has to stand in one, and any of the present may. The first place
-// takes a missing height, which is then present, or a present one; the latter only where there is a place to spare.
+// The ways to fill rest places where each of the missing heights has to stand in one, and any of the present may. With one missing
+// these are the fillings by one height more, without those that do not use it. With more, some places take present heights, in so many
+// fillings, the next takes a missing one, which is then present, and fewer places are left. More heights than places leave no way.
 fn ways(rest: u64, missing: u64, present: u64) -> u64
-    requires { ⌜ rest + present ≤ 16 ⌝ }
+    requires { ⌜ rest + present < 16 ⌝ }
     ensures { λ r. ⌜ r ≡ ways rest missing present ⌝ }
 {
-    if rest < missing {
-        return 0;
-    }
     if present == 0 {
         return weak_order_count_with(rest as usize, missing as usize);
     }
     if missing == 0 {
         return none_missing(rest, present);
     }
-    let taken = missing * ways(rest - 1, missing - 1, present + 1);
-    if rest == missing {
-        return taken;
+    if missing == 1 {
+        return none_missing(rest, present + 1) - none_missing(rest, present);
     }
-    taken + present * ways(rest - 1, missing, present)
+    let mut total = 0;
+    let mut fillings = 1;
+    let mut left = rest;
+    while missing <= left {
+        left -= 1;
+        total += fillings * missing * ways(left, missing - 1, present + 1);
+        fillings *= present;
+    }
+    total
 }
 
 // For each m up to 16: the ways to fill rest places with m or more missing heights.
 fn ways_from(rest: u64, present: u64) -> [u64; 17]
-    requires { ⌜ rest + present ≤ 16 ⌝ }
+    requires { ⌜ rest + present < 16 ⌝ }
     ensures { λ r. ⌜ Entries r (λ m. waysFrom rest m present) 17 ⌝ }
 {
     let mut totals = [0u64; 17];

@@ -53,7 +53,7 @@ next c =
 add-total : tie.Need-add-total Inv-loop μ-loop
 add-total c =
     let a = c .before .before .before .args in
-    record { fits = omega (arith, next c, waysFrom-small (a .rest) (c .before .before .loop .m - 1) (a .present) (c .before .before .before .pre)) }
+    record { fits = omega (arith, next c, waysFrom-small (a .rest) (c .before .before .loop .m - 1) (a .present) (omega (arith, c .before .before .before .pre))) }
 
 mul-totals : tie.Need-mul-totals Inv-loop μ-loop
 mul-totals c = search needs
