@@ -16,7 +16,8 @@ use Rattle.weak_orders.proofs.Symbols.{bound, bound-in, bound-append}
 use Rattle.ranking.specs.Counts.{sum, a, Found}
 use Rattle.ranking.specs.Dictionary.{completions, completionsWith, place, windowAt}
 use Rattle.ranking.specs.Tables.{Entries}
-use Rattle.ranking.proofs.Places.{HeightWindow, heights-numbered, placeAt, place-upto, place-sum}
+use Rattle.ranking.specs.Numbering.{HeightWindow}
+use Rattle.ranking.proofs.Places.{heights-numbered, placeAt, place-upto, place-sum}
 use Rattle.ranking.proofs.Prefixes.{completions-suc}
 use Rattle.ranking.proofs.Size.{a≤a16}
 use Rattle.ranking.proofs.Sums.{sum-cong}

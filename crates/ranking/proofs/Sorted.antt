@@ -32,6 +32,13 @@ module _ {A : Type 0} {lt : A → A → Bool} where
       (λ e. rw e (one (λ y m. f y (of-select p xs m .0)) (sorted-select p s)))
       (λ e. rw e (sorted-select p s))
 
+  -- an element stands before each one with a greater index
+  pub sorted-at : (d : A) {xs : List A} → Sorted lt xs → (i j : ℕ) → i < j → j < length xs → lt (getD xs i d) (getD xs j d) ≡ true
+  sorted-at d none i j l h = absurd (omega arith)
+  sorted-at d (one f s) i zero l h = absurd (omega arith)
+  sorted-at d (one {xs = xs} f s) zero (suc j) l h = f (getD xs j d) (getD-in xs j d (omega arith))
+  sorted-at d (one f s) (suc i) (suc j) l h = sorted-at d s i j (omega arith) (omega arith)
+
   pub sorted-map : {B : Type 0} {lt′ : B → B → Bool} (f : A → B) → ((x y : A) → lt x y ≡ true → lt′ (f x) (f y) ≡ true) →
       {xs : List A} → Sorted lt xs → Sorted lt′ (map f xs)
   sorted-map f h none = none

@@ -16,7 +16,8 @@ use Rattle.weak_orders.proofs.Symbols.{bound, bound-append, bound-back}
 use Rattle.weak_orders.proofs.Tests.{by-test, bit}
 use Rattle.ranking.specs.Counts.{sum, a, Found}
 use Rattle.ranking.specs.Dictionary.{completions, completionsWith, place, windowAt}
-use Rattle.ranking.proofs.Places.{HeightWindow, heights-numbered, placeFrom, place-by-prefixes}
+use Rattle.ranking.specs.Numbering.{HeightWindow}
+use Rattle.ranking.proofs.Places.{heights-numbered, placeFrom, place-by-prefixes}
 use Rattle.ranking.proofs.Prefixes.{completions-suc, completions-full, completions-all}
 use Rattle.ranking.proofs.Sums.{sum-suc, sum-mono}
 
