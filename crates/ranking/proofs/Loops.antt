@@ -1,20 +1,20 @@
 -- The two loops over the symbols of a window in an array of 16: what they know at the index i. Assumes nothing.
 use mathlib.Core.Bool.{true}
-use mathlib.Core.List.{List, [], _∷_, _++_}
-use mathlib.Core.Path.{_≡_, sym, ap, ap₂, _∙_}
-use Prim.Native.Nat.{ℕ, suc, _+_, _≤_, _<_}
+use mathlib.Core.List.{List}
+use mathlib.Core.Path.{_≡_, sym, ap, _∙_}
+use Prim.Native.Nat.{ℕ, _+_, _≤_, _<_}
 use native.Mathlib.Omega.{arith}
 use lib.ListN.{length, getD, set, take, drop, length-take, take-append-drop}
 use lib.Seq.{getD-take, take-take}
 use Rattle.weak_orders.specs.Converted.{isHeightWindow}
-use Rattle.weak_orders.specs.Window.{isHeight, padded}
+use Rattle.weak_orders.specs.Window.{padded}
 use Rattle.weak_orders.proofs.FormTests.{of-height-window}
 use Rattle.weak_orders.proofs.HeightForm.{height-bound}
 use Rattle.weak_orders.proofs.Lists.{getD-in}
 use Rattle.weak_orders.proofs.Padded.{take-padded, padded-next}
 use Rattle.weak_orders.proofs.Symbols.{bound, bound-in, bound-append}
 use Rattle.ranking.specs.Counts.{sum, a, Found}
-use Rattle.ranking.specs.Dictionary.{completions, completionsWith, place, windowAt}
+use Rattle.ranking.specs.Dictionary.{completionsWith, place, windowAt}
 use Rattle.ranking.specs.Tables.{Entries}
 use Rattle.ranking.specs.Numbering.{HeightWindow}
 use Rattle.ranking.proofs.Places.{heights-numbered, placeAt, place-upto, place-sum}

@@ -1,5 +1,5 @@
 -- Places number the height windows, and the rank windows with them; a place is a sum over the window's prefixes. Assumes nothing.
-use mathlib.Core.Bool.{Bool, true, _&&_, and-true, and-false}
+use mathlib.Core.Bool.{Bool, _&&_, and-true, and-false}
 use mathlib.Core.Path.{_≡_, refl, sym, ap, _∙_}
 use mathlib.Core.List.{List, [], _∷_, _++_}
 use Prim.Native.Nat.{ℕ, zero, suc, _+_, _-_, _≤_, _<_}
@@ -7,7 +7,7 @@ use native.Mathlib.Omega.{arith}
 use lib.ListN.{length, getD, take, drop, length-append}
 use lib.Seq.{append-snoc, take-suc, drop-cons, drop-length}
 use Rattle.weak_orders.specs.Order.{lexLt}
-use Rattle.weak_orders.specs.Window.{all, count, isRank, isHeight, heights, ranks}
+use Rattle.weak_orders.specs.Window.{all, count, isHeight, heights, ranks}
 use Rattle.weak_orders.proofs.Conversions.{ranks-isRank, heights-isHeight, length-ranks, length-heights, ranks-heights, heights-ranks}
 use Rattle.weak_orders.proofs.HeightForm.{height-bound}
 use Rattle.weak_orders.proofs.Lists.{count-cong, count-none}

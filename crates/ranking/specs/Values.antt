@@ -1,5 +1,5 @@
 -- Worked values of document 01, "Windows" and "Place".
-use mathlib.Core.List.{List, [], _∷_, map}
+use mathlib.Core.List.{[], _∷_, map}
 use mathlib.Core.Path.{_≡_}
 use Rattle.weak_orders.specs.Window.{range}
 use Rattle.ranking.specs.Counts.{L, a}

@@ -1,7 +1,7 @@
 -- `ranking::continuations` meets its contract. The loop's invariant: the first v counts are right, in terms of what was found out about
 -- the prefix (`Known`). Assumes nothing.
-use mathlib.Core.Path.{_≡_, refl, sym, ap, _∙_}
-use Prim.Native.Nat.{ℕ, suc, max, _+_, _-_, _≤_, _<_}
+use mathlib.Core.Path.{_≡_, refl, ap, _∙_}
+use Prim.Native.Nat.{_-_, _≤_, _<_}
 use native.Mathlib.Omega.{arith}
 use lib.ListN.{length, take, length-take}
 use Rattle.weak_orders.specs.Window.{different}
@@ -13,14 +13,6 @@ use Rattle.ranking.proofs.Tabled.{entries-more}
 use borrow.Author.Needs.{needs}
 use Rattle.ranking.proofs.continuations.Statement.{statement}
 use Rattle.ranking.proofs.continuations.Tie as tie
-use Rattle.ranking.proofs.continuations.Reads as reads
-use Rattle.ranking.proofs.continuations.Lts as lts
-use Rattle.ranking.proofs.bound.Reads as bound-reads
-use Rattle.ranking.proofs.larger.Reads as larger-reads
-use Rattle.ranking.proofs.ways_from.Reads as ways-from-reads
-use Rattle.ranking.proofs.with_symbol.Reads as with-symbol-reads
-use Rattle.weak_orders.proofs.counts.Reads as counts-reads
-use Rattle.weak_orders.proofs.different.Reads as different-reads
 
 abbrev Inv-loop : tie.InvT-loop
 Inv-loop n i present seen top totals counts₀ v₀ counts v = (v ≤ n) × (length counts ≡ 16) × Entries counts (counted seen top present totals) v
