@@ -37,7 +37,7 @@ counted seen top present totals v =
     let m = missing top present v in
     cond (ltb 0 (getD seen v 0)) (getD totals m 0) (getD totals (m - 1) 0 + getD totals m 0)
 
-module _ (n : ℕ) (p seen : List ℕ) (top present : ℕ) (totals : List ℕ) (K : Known n p seen top present totals) where
+module _ {n : ℕ} {p seen : List ℕ} {top present : ℕ} {totals : List ℕ} (K : Known n p seen top present totals) where
   pub symbols≤top : present ≤ top
   symbols≤top = omega (arith, K .largest, K .symbols, different≤bound p)
 

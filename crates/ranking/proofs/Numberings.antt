@@ -10,8 +10,8 @@ pub record Matching {A B : Type 0} (P : A → Type 0) (Q : B → Type 0) (to : B
   pub from-to : (w : B) → Q w → from (to w) ≡ w
   pub to-from : (w : A) → P w → to (from w) ≡ w
 
-pub numbering-through : {A B : Type 0} {P : A → Type 0} {Q : B → Type 0} {N : ℕ} {place : A → ℕ} {item : ℕ → A} {to : B → A} {from : A → B} →
-    Numbering P N place item → Matching P Q to from → Numbering Q N (λ w. place (to w)) (λ i. from (item i))
+pub numbering-through : {A B : Type 0} {P : A → Type 0} {Q : B → Type 0} {N : ℕ} {place : A → ℕ} {item : ℕ → A}
+    {to : B → A} {from : A → B} → Numbering P N place item → Matching P Q to from → Numbering Q N (λ w. place (to w)) (λ i. from (item i))
 numbering-through {place = place} {item} {to} {from} H M = record {
   place-below = λ w q. H .place-below (to w) (M .to-in w q);
   item-place = λ w q. ap from (H .item-place (to w) (M .to-in w q)) ∙ M .from-to w q;

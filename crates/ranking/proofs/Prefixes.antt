@@ -88,7 +88,8 @@ completions-ways n p h = elim (decLe (bound p) n) [
 
 -- one symbol more: one that p holds, or another
 module _ (n : ℕ) (p : List ℕ) (v : ℕ) (h : length p < n) where
-  by-ways : (d : ℕ) → different (p ++ (v ∷ [])) ≡ d → completions n (p ++ (v ∷ [])) ≡ waysFrom (n - suc (length p)) (max (bound p) (suc v) - d) d
+  by-ways : (d : ℕ) → different (p ++ (v ∷ [])) ≡ d →
+      completions n (p ++ (v ∷ [])) ≡ waysFrom (n - suc (length p)) (max (bound p) (suc v) - d) d
   by-ways d e =
       let l : length (p ++ (v ∷ [])) ≡ suc (length p) = omega (arith, length-append p (v ∷ [])) in
       completions-ways n (p ++ (v ∷ [])) (omega arith) ∙ rw (l, bound-back p v, e)

@@ -19,7 +19,8 @@ pub data Sorted {A : Type 0} (lt : A → A → Bool) : List A → Type 0 where
   one : {x : A} {xs : List A} → ((y : A) → y ∈ xs → lt x y ≡ true) → Sorted lt xs → Sorted lt (x ∷ xs)
 
 module _ {A : Type 0} {lt : A → A → Bool} where
-  pub sorted-append : {xs ys : List A} → Sorted lt xs → Sorted lt ys → ((x y : A) → x ∈ xs → y ∈ ys → lt x y ≡ true) → Sorted lt (xs ++ ys)
+  pub sorted-append : {xs ys : List A} → Sorted lt xs → Sorted lt ys →
+      ((x y : A) → x ∈ xs → y ∈ ys → lt x y ≡ true) → Sorted lt (xs ++ ys)
   sorted-append none t h = t
   sorted-append (one {x = x} {xs = xs} f s) t h = one
       (λ y m. ⊎-elim (f y) (h x y (here refl)) (List·Memᴰ·append-cases xs m))

@@ -24,10 +24,12 @@ long s = search needs
 -- what the symbol at i adds
 added : (c : tie.After-continuations Inv-loop μ-loop) →
     let a = c .before .before .before .args in
-    sum (λ v. getD (c .continuations .result) v 0) (getD (a .t1) (c .before .before .loop .i) 0) ≡ placeAt (take (a .n) (a .t1)) (c .before .before .loop .i)
+    let i = c .before .before .loop .i in
+    sum (λ v. getD (c .continuations .result) v 0) (getD (a .t1) i 0) ≡ placeAt (take (a .n) (a .t1)) i
 added c =
     let s = c .before .before .before in
-    placed-at (s .args .t1) (s .args .n) (long s) (s .pre) (c .before .before .loop .i) (search needs) (c .continuations .result) (c .continuations .ensures)
+    placed-at (s .args .t1) (s .args .n) (long s) (s .pre) (c .before .before .loop .i) (search needs)
+    (c .continuations .result) (c .continuations .ensures)
 
 next : (c : tie.After-sum-below Inv-loop μ-loop) →
     let a = c .before .before .before .before .args in

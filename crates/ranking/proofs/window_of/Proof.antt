@@ -15,7 +15,8 @@ use Rattle.ranking.proofs.window_of.Statement.{statement}
 use Rattle.ranking.proofs.window_of.Tie as tie
 
 abbrev Inv-loop : tie.InvT-loop
-Inv-loop n place window₀ left₀ i₀ window left i = (i ≤ n) × (window ≡ padded (take i (windowAt n place))) × Reached n (windowAt n place) i left
+Inv-loop n place window₀ left₀ i₀ window left i =
+    (i ≤ n) × (window ≡ padded (take i (windowAt n place))) × Reached n (windowAt n place) i left
 
 abbrev μ-loop : tie.MeasureT-loop
 μ-loop n place window₀ left₀ i₀ window left i = n - i
