@@ -3,3 +3,12 @@ pub mod Singles
 pub mod SetR
 pub mod Rule1
 pub mod Rules23
+pub mod Comparison
+pub mod RotationSearch
+pub mod Scans
+pub mod Windows
+pub mod Tables
+pub mod Rule1Cases
+pub mod SetRTests
+pub mod RuleNumbers
+pub mod StepForm

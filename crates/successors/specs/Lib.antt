@@ -1,1 +1,3 @@
 pub mod Rules
+pub mod ByTable
+pub mod NextSymbol

@@ -1,2 +1,69 @@
-// The three successor rules: the symbol that follows a window, and one step.
-// Rests on weak_orders. That the steps of a rule make one cycle is shown in universal_cycle.
+// The three successor rules of 002: the symbol that follows a window, and one step.
+// Rests on weak_orders for windows, their forms and their tables of counts. That the steps of a rule go through every weak order once
+// is shown in universal_cycle; this crate knows no session.
+// A window passes by value, as an array of 16 with n beside; only the innermost scans borrow it.
+mod height_rules;
+mod rank_rule;
+mod rotations;
+
+use height_rules::successor2;
+use height_rules::successor3;
+use rank_rule::successor1;
+ghost use mathlib.Core.Bool.{true, _&&_};
+ghost use mathlib.Core.Path.{_≡_};
+ghost use lib.ListN.{take};
+ghost use Rattle.weak_orders.specs.Window.{isLength, padded};
+ghost use Rattle.successors.specs.NextSymbol.{nextSymbol};
+ghost use Rattle.successors.specs.Rules.{inForm, isRule, ruleOf, step};
+
+// The first n symbols are a weak order of n in the rule's form: ranks for rule 1, heights for the others.
+pub fn in_form(rule: u8, w: [u8; 16], n: usize) -> bool
+    ensures { λ r. ⌜ r ≡ (isLength n && inForm rule (take n w)) ⌝ }
+{
+    if rule == 1 {
+        return weak_orders::is_rank(w, n);
+    }
+    weak_orders::is_height(w, n)
+}
+
+// The rule's symbol for a window in its form.
+fn successor(rule: u8, w: [u8; 16], n: usize) -> u8
+    requires { ⌜ (isLength n ≡ true) × (inForm rule (take n w) ≡ true) ⌝ }
+    ensures { λ r. ⌜ r ≡ ruleOf rule (take n w) ⌝ }
+{
+    if rule == 1 {
+        return successor1(w, n);
+    }
+    if rule == 2 {
+        return successor2(w, n);
+    }
+    successor3(w, n)
+}
+
+// The symbol that follows, or that there is no such rule or no such window under it.
+pub enum Next {
+    Symbol(u8),
+    NotWeakOrder,
+}
+
+pub fn next_symbol(rule: u8, w: [u8; 16], n: usize) -> Next
+    ensures { λ r. ⌜ r ≡ nextSymbol rule n w ⌝ }
+{
+    if !((1 <= rule) & (rule <= 3)) {
+        return Next::NotWeakOrder;
+    }
+    if !in_form(rule, w, n) {
+        return Next::NotWeakOrder;
+    }
+    let s = successor(rule, w, n);
+    Next::Symbol(s)
+}
+
+// One step of a window that the caller has tested: the oldest symbol is dropped and the rule's appended.
+pub fn step(rule: u8, w: [u8; 16], n: usize) -> [u8; 16]
+    requires { ⌜ (isLength n ≡ true) × (isRule rule ≡ true) × (inForm rule (take n w) ≡ true) ⌝ }
+    ensures { λ r. ⌜ r ≡ padded (step (ruleOf rule) (take n w)) ⌝ }
+{
+    let s = successor(rule, w, n);
+    weak_orders::shift(w, n, s)
+}

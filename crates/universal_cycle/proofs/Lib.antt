@@ -5,3 +5,4 @@ pub mod Agreeing
 pub mod Rings1
 pub mod Rings23
 pub mod Rounds
+pub mod Examples

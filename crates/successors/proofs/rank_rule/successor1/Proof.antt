@@ -1,0 +1,185 @@
+-- `successor1` is rule 1: each return is the case of the definition that applies. Assumes nothing.
+use mathlib.Core.Bool.{false, cond, _&&_}
+use mathlib.Core.List.{List}
+use mathlib.Core.Path.{_≡_, refl, sym, _∙_}
+use Prim.Native.Nat.{ℕ, _+_, _-_, _≤_, _<_}
+use native.Mathlib.Omega.{arith}
+use borrow.Author.Needs.{needs}
+use lib.Dec.{eqb}
+use lib.ListN.{take, drop, getD}
+use Rattle.weak_orders.specs.Window.{num}
+use Rattle.weak_orders.proofs.FormTests.{rank-low}
+use Rattle.weak_orders.proofs.Symbols.{num-le-length, num-mem}
+use Rattle.successors.specs.ByTable.{Low}
+use Rattle.successors.specs.Rules.{isPlain, largestBelow, case3, case4, rule1}
+use Rattle.successors.proofs.Rule1Cases.{rule1-chain, plain-scan}
+use Rattle.successors.proofs.Tables.{table-num, largest-le, largestBy-largest}
+use Rattle.successors.proofs.Windows.{InArray, size, parts, first-in}
+use Rattle.successors.proofs.rank_rule.successor1.Statement.{statement}
+use Rattle.successors.proofs.rank_rule.successor1.Tie as tie
+
+-- the window, its first symbol and the others
+abbrev window : tie.Start → List ℕ
+window s = take (s .args .n) (s .args .t1)
+
+abbrev head : tie.Start → ℕ
+head s = getD (s .args .t1) 0 0
+
+abbrev tail : tie.Start → List ℕ
+tail s = drop 1 (window s)
+
+array : (s : tie.Start) → InArray (s .args .t1) (s .args .n)
+array s = record { long = search needs; some = s .pre .0; most = s .pre .1 }
+
+low : (s : tie.Start) → Low (window s)
+low s = rank-low (s .args .t1) (s .args .n) (array s .long) (s .pre .1) (s .pre .2)
+
+head-low : (s : tie.Start) → head s ≤ 16
+head-low s = low s (head s) (first-in (array s))
+
+-- the table has how often a symbol occurs, which is at most n
+module _ (c : tie.After-counts) where
+  often : (v : ℕ) → v ≤ 16 → getD (c .counts .result) v 0 ≡ num (window (c .before)) v
+  often v le = table-num (c .counts .result) (window (c .before)) (c .counts .ensures) v le
+
+  often-le : (v : ℕ) → v ≤ 16 → getD (c .counts .result) v 0 ≤ 16
+  often-le v le = omega (arith, often v le, num-le-length (window (c .before)) v, size (array (c .before)))
+
+is-plain : (c : tie.After-all-single) → c .all-single .result ≡ isPlain (window (c .before .before))
+is-plain c =
+    let s = c .before .before in
+    c .all-single .ensures ∙ plain-scan (s .args .t1) (c .before .counts .result) (s .args .n) (low s) (c .before .counts .ensures)
+
+-- the rule as the code goes through it
+chain : (c : tie.After-all-single) (p : ℕ) →
+    let s = c .before .before in
+    let ones = getD (c .before .counts .result) 1 0 in
+    p ≡ largestBelow (window s) (head s) →
+    rule1 (window s) ≡ cond (c .all-single .result && eqb (head s) (ones + 1)) 1 (
+    cond (c .all-single .result && eqb (head s) 1) ones (
+    cond (case3 (head s) (tail s)) (head s + num (window s) (head s) - 1) (
+    cond (case4 (head s) (tail s) p) p (head s))))
+chain c p e =
+    let s = c .before .before in
+    let ones = getD (c .before .counts .result) 1 0 in
+    rule1-chain (window s) (head s) (tail s) (parts (array s)) ones p (c .all-single .result) (is-plain c) (often (c .before) 1 (omega arith)) e
+
+not-case3 : (c : tie.Else3) → let s = c .before .before .before .before .before .before in case3 (head s) (tail s) ≡ false
+not-case3 c = sym (c .before .is-case3 .ensures) ∙ c .if3 .left
+
+is-largest : (c : tie.After-largest-below) →
+    let s = c .before .before .before .before .before .before .before in
+    c .largest-below .result ≡ largestBelow (window s) (head s)
+is-largest c =
+    let p = c .before .before .before .before .before .before in
+    let s = p .before in
+    c .largest-below .ensures ∙ largestBy-largest (p .counts .result) (window s) (p .counts .ensures) (head s) (omega (arith, head-low s))
+
+largest-low : (c : tie.After-largest-below) → c .largest-below .result ≤ 16
+largest-low c =
+    let s = c .before .before .before .before .before .before .before in
+    omega (arith, is-largest c, largest-le (window s) (head s), head-low s)
+
+counts-requires : tie.Need-counts-requires
+counts-requires c κs = search needs
+
+all-single-requires : tie.Need-all-single-requires
+all-single-requires c κs = (c .before .pre .1, low (c .before))
+
+array-read-ones : tie.Need-array-read-ones
+array-read-ones c = search needs
+
+array-read-a : tie.Need-array-read-a
+array-read-a c = search needs
+
+add-if1 : tie.Need-add-if1
+add-if1 c = record { fits = omega (arith, often-le (c .before) 1 (omega arith)) }
+
+returns : tie.Need-returns
+returns c = sym (chain (c .before) _ refl ∙ rw (c .if1 .taken))
+
+returns-2 : tie.Need-returns-2
+returns-2 c = sym (chain (c .before .before) _ refl ∙ rw (c .before .if1 .left, c .if2 .taken))
+
+is-case3-requires : tie.Need-is-case3-requires
+is-case3-requires c κs =
+    let p = c .before .before in
+    let s = p .before .before in
+    (s .pre .0, s .pre .1, low s, p .before .counts .ensures, is-plain p)
+
+cast-result : tie.Need-cast-result
+cast-result c = search needs
+
+array-read-result : tie.Need-array-read-result
+array-read-result c = omega (arith, head-low (c .before .before .before .before .before .before))
+
+add-result : tie.Need-add-result
+add-result c =
+    let p = c .before .before .before .before .before in
+    record { fits = omega (arith, head-low (p .before), often-le p (head (p .before)) (head-low (p .before))) }
+
+sub-result : tie.Need-sub-result
+sub-result c =
+    let p = c .before .before .before .before .before in
+    let s = p .before in
+    omega (arith, often p (head s) (head-low s), num-mem (window s) (head s) .1 (first-in (array s)))
+
+returns-3 : tie.Need-returns-3
+returns-3 c =
+    let p = c .before .before .before .before in
+    let s = p .before .before in
+    let taken = sym (c .before .is-case3 .ensures) ∙ c .if3 .taken in
+    sym (chain p _ refl ∙ rw (c .before .before .before .if1 .left, c .before .before .if2 .left, taken, often (p .before) (head s) (head-low s)))
+
+cast-largest-below : tie.Need-cast-largest-below
+cast-largest-below c = search needs
+
+largest-below-requires : tie.Need-largest-below-requires
+largest-below-requires c κs = omega (arith, head-low (c .before .before .before .before .before .before))
+
+is-case4-requires : tie.Need-is-case4-requires
+is-case4-requires c κs =
+    let p = c .before .before .before .before .before in
+    let s = p .before .before in
+    (s .pre .0, s .pre .1, low s, p .before .counts .ensures, largest-low c)
+
+cast-result-2 : tie.Need-cast-result-2
+cast-result-2 c = record { fits = omega (arith, largest-low (c .before .before)) }
+
+returns-4 : tie.Need-returns-4
+returns-4 c =
+    let q = c .before .before in
+    let taken = sym (c .before .is-case4 .ensures) ∙ c .if4 .taken in
+    sym (chain (c .before .before .before .before .before .before .before) (q .largest-below .result) (is-largest q)
+    ∙ rw (c .before .before .before .before .before .before .if1 .left, c .before .before .before .before .before .if2 .left, not-case3 (q .before), taken))
+
+returns-5 : tie.Need-returns-5
+returns-5 c =
+    let q = c .before .before in
+    let left = sym (c .before .is-case4 .ensures) ∙ c .if4 .left in
+    sym (chain (c .before .before .before .before .before .before .before) (q .largest-below .result) (is-largest q)
+    ∙ rw (c .before .before .before .before .before .before .if1 .left, c .before .before .before .before .before .if2 .left, not-case3 (q .before), left))
+
+pub successor1-spec : {M : Type 1} → statement M
+successor1-spec =
+    tie.close
+    (tie.spec
+    counts-requires
+    all-single-requires
+    array-read-ones
+    array-read-a
+    add-if1
+    returns
+    returns-2
+    is-case3-requires
+    cast-result
+    array-read-result
+    add-result
+    sub-result
+    returns-3
+    cast-largest-below
+    largest-below-requires
+    is-case4-requires
+    cast-result-2
+    returns-4
+    returns-5)

@@ -1,0 +1,93 @@
+-- `precedes` compares the two rotations. The loop's invariant: what is left of them from index k compares as they do. The measure is
+-- what is left of n. Assumes nothing.
+use denote.Ref.{now}
+use mathlib.Core.List.{List}
+use mathlib.Core.Path.{_≡_, _∙_, sym}
+use Prim.Native.Nat.{ℕ, _≤_, _<_, _-_}
+use native.Mathlib.Omega.{arith}
+use borrow.Author.Needs.{needs}
+use lib.ListN.{length, take, drop}
+use Rattle.weak_orders.specs.Order.{lexLt}
+use Rattle.weak_orders.specs.Rotation.{rotation}
+use Rattle.successors.proofs.Comparison.{rotation-length, Front, front-less, front-greater, front-equal, lexLt-end}
+use Rattle.successors.proofs.rotations.precedes.Statement.{statement}
+use Rattle.successors.proofs.rotations.precedes.Tie as tie
+
+abbrev Inv-loop : tie.InvT-loop
+Inv-loop w n i j k₀ k =
+    (k ≤ n) ×
+    (lexLt (rotation (take n w) i) (rotation (take n w) j) ≡ lexLt (drop k (rotation (take n w) i)) (drop k (rotation (take n w) j)))
+
+abbrev μ-loop : tie.MeasureT-loop
+μ-loop w n i j k₀ k = n - k
+
+-- the two rotations
+abbrev from-i : tie.Start Inv-loop μ-loop → List ℕ
+from-i s = rotation (take (s .args .n) (now (s .args .w))) (s .args .i)
+
+abbrev from-j : tie.Start Inv-loop μ-loop → List ℕ
+from-j s = rotation (take (s .args .n) (now (s .args .w))) (s .args .j)
+
+long-i : (s : tie.Start Inv-loop μ-loop) → length (from-i s) ≡ s .args .n
+long-i s = rotation-length (now (s .args .w)) (s .args .n) (s .args .i) (search needs) (search needs)
+
+long-j : (s : tie.Start Inv-loop μ-loop) → length (from-j s) ≡ s .args .n
+long-j s = rotation-length (now (s .args .w)) (s .args .n) (s .args .j) (search needs) (search needs)
+
+front : (c : tie.After-symbol-at2 Inv-loop μ-loop) →
+    let p = c .before .before .before in
+    Front (from-i (p .before)) (from-j (p .before)) (p .loop .k) (c .before .symbol-at .result) (c .symbol-at2 .result)
+front c =
+    let p = c .before .before .before in
+    record {
+      left = p .loop .inv .1;
+      in-a = omega (arith, long-i (p .before));
+      in-b = omega (arith, long-j (p .before));
+      of-a = c .before .symbol-at .ensures;
+      of-b = c .symbol-at2 .ensures;
+    }
+
+loop-holds : tie.Need-loop-holds Inv-loop μ-loop
+loop-holds c = search needs
+
+symbol-at-requires : tie.Need-symbol-at-requires Inv-loop μ-loop
+symbol-at-requires c κs = search needs
+
+symbol-at-requires-2 : tie.Need-symbol-at-requires-2 Inv-loop μ-loop
+symbol-at-requires-2 c κs = search needs
+
+returns : tie.Need-returns Inv-loop μ-loop
+returns c = front-less _ _ _ _ _ (front (c .before)) (c .if1 .taken)
+
+returns-2 : tie.Need-returns-2 Inv-loop μ-loop
+returns-2 c = front-greater _ _ _ _ _ (front (c .before .before)) (c .if2 .taken)
+
+add-k : tie.Need-add-k Inv-loop μ-loop
+add-k c = search needs
+
+loop-less : tie.Need-loop-less Inv-loop μ-loop
+loop-less c = search needs
+
+loop-again : tie.Need-loop-again Inv-loop μ-loop
+loop-again c = (omega arith, front-equal _ _ _ _ _ (front (c .before .before)) (omega arith))
+
+returns-3 : tie.Need-returns-3 Inv-loop μ-loop
+returns-3 c =
+    let s = c .before .before in
+    lexLt-end (from-i s) (from-j s) (c .before .loop .k) (omega (arith, long-j s)) (c .before .loop .inv .1)
+
+pub precedes-spec : {M : Type 1} → statement M
+precedes-spec =
+    tie.close
+    (tie.spec
+    Inv-loop
+    μ-loop
+    loop-holds
+    symbol-at-requires
+    symbol-at-requires-2
+    returns
+    returns-2
+    add-k
+    loop-less
+    loop-again
+    returns-3)

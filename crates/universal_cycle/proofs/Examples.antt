@@ -1,0 +1,75 @@
+-- The worked examples, by computation. Assumes nothing.
+use mathlib.Core.List.{[], _∷_}
+use mathlib.Core.Path.{refl}
+use native.Mathlib.Omega.{arith}
+use Rattle.weak_orders.specs.Window.{isRank, heights}
+use Rattle.weak_orders.specs.Rotation.{start}
+use Rattle.ranking.specs.Counts.{L, a}
+use Rattle.ranking.specs.Dictionary.{heightWindows, place}
+use Rattle.successors.specs.Rules.{rule1, rule2, rule3, ruleOf, inForm, isRule, step}
+use Rattle.universal_cycle.specs.Examples.{WorkedExamples, GivenValues, roundOf, SmallRounds}
+use Rattle.universal_cycle.specs.Round.{Tour, WeakOrder}
+use Rattle.universal_cycle.proofs.Rounds.{universal-cycle}
+
+pub worked-examples : WorkedExamples
+unfolding rule1 rule2 rule3 place heights
+worked-examples = record {
+  rule1-111 = refl;
+  rule1-113 = refl;
+  rule1-312 = refl;
+  rule1-221 = refl;
+  rule1-212 = refl;
+  rule1-3131 = refl;
+  rule2-100 = refl;
+  rule2-110 = refl;
+  rule2-210 = refl;
+  rule3-000 = refl;
+  rule3-010 = refl;
+  rule3-210 = refl;
+  place-201 = refl;
+  heights-82512276 = refl;
+}
+
+pub given-values : GivenValues
+unfolding rule1 rule2 rule3 start isRank L a heightWindows
+given-values = record {
+  rule1-321 = refl;
+  start-3131 = refl;
+  rule1-1 = refl;
+  rule2-0 = refl;
+  rule3-0 = refl;
+  rank-122 = refl;
+  rank-113 = refl;
+  not-rank-112 = refl;
+  a-6 = refl;
+  a-16 = refl;
+  L-4 = refl;
+  height-windows-3 = refl;
+}
+
+pub small-rounds : SmallRounds
+unfolding roundOf
+small-rounds = record {
+  rule1-of-1 = refl;
+  rule2-of-1 = refl;
+  rule3-of-1 = refl;
+  rule1-of-2 = refl;
+  rule2-of-2 = refl;
+  rule3-of-2 = refl;
+  rule1-of-3 = refl;
+  rule2-of-3 = refl;
+  rule3-of-3 = refl;
+}
+
+-- The theorem there: its hypotheses are met.
+pub tour-of-1 : Tour (WeakOrder 1 1) (step (ruleOf 1)) 1 (1 ∷ [])
+unfolding isRule inForm a
+tour-of-1 = universal-cycle 1 refl 1 (omega arith) (1 ∷ []) (refl, refl)
+
+pub tour-of-2 : Tour (WeakOrder 2 2) (step (ruleOf 2)) 3 (1 ∷ 0 ∷ [])
+unfolding isRule inForm a
+tour-of-2 = universal-cycle 2 refl 2 (omega arith) (1 ∷ 0 ∷ []) (refl, refl)
+
+pub tour-of-3 : Tour (WeakOrder 3 3) (step (ruleOf 3)) 13 (2 ∷ 0 ∷ 1 ∷ [])
+unfolding isRule inForm a
+tour-of-3 = universal-cycle 3 refl 3 (omega arith) (2 ∷ 0 ∷ 1 ∷ []) (refl, refl)

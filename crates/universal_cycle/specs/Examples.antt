@@ -1,0 +1,133 @@
+-- The worked examples of document 01 ("Contracts and examples"), as statements about the definitions.
+use mathlib.Core.Bool.{true, false}
+use mathlib.Core.List.{List, [], _∷_, map}
+use mathlib.Core.Path.{_≡_}
+use Prim.Native.Nat.{ℕ, suc}
+use Rattle.weak_orders.specs.Window.{range, iter, isRank, heights}
+use Rattle.weak_orders.specs.Rotation.{start}
+use Rattle.ranking.specs.Counts.{L, a}
+use Rattle.ranking.specs.Dictionary.{heightWindows, place}
+use Rattle.successors.specs.Rules.{rule1, rule2, rule3, ruleOf, step}
+
+-- the fourteen examples that document 01 wants proved
+pub record WorkedExamples : Type 0 where
+  pub rule1-111 : rule1 (1 ∷ 1 ∷ 1 ∷ []) ≡ 3
+  pub rule1-113 : rule1 (1 ∷ 1 ∷ 3 ∷ []) ≡ 2
+  pub rule1-312 : rule1 (3 ∷ 1 ∷ 2 ∷ []) ≡ 2
+  pub rule1-221 : rule1 (2 ∷ 2 ∷ 1 ∷ []) ≡ 2
+  pub rule1-212 : rule1 (2 ∷ 1 ∷ 2 ∷ []) ≡ 3
+  pub rule1-3131 : rule1 (3 ∷ 1 ∷ 3 ∷ 1 ∷ []) ≡ 4
+  pub rule2-100 : rule2 (1 ∷ 0 ∷ 0 ∷ []) ≡ 0
+  pub rule2-110 : rule2 (1 ∷ 1 ∷ 0 ∷ []) ≡ 2
+  pub rule2-210 : rule2 (2 ∷ 1 ∷ 0 ∷ []) ≡ 0
+  pub rule3-000 : rule3 (0 ∷ 0 ∷ 0 ∷ []) ≡ 1
+  pub rule3-010 : rule3 (0 ∷ 1 ∷ 0 ∷ []) ≡ 2
+  pub rule3-210 : rule3 (2 ∷ 1 ∷ 0 ∷ []) ≡ 1
+  pub place-201 : place (2 ∷ 0 ∷ 1 ∷ []) ≡ 11
+  pub heights-82512276 : heights (8 ∷ 2 ∷ 5 ∷ 1 ∷ 2 ∷ 2 ∷ 7 ∷ 6 ∷ []) ≡ (5 ∷ 1 ∷ 2 ∷ 0 ∷ 1 ∷ 1 ∷ 4 ∷ 3 ∷ [])
+
+-- further values that the text of document 01 and 002 gives
+pub record GivenValues : Type 0 where
+  pub rule1-321 : rule1 (3 ∷ 2 ∷ 1 ∷ []) ≡ 3
+  pub start-3131 : start (3 ∷ 1 ∷ 3 ∷ 1 ∷ []) ≡ 2
+  pub rule1-1 : rule1 (1 ∷ []) ≡ 1
+  pub rule2-0 : rule2 (0 ∷ []) ≡ 0
+  pub rule3-0 : rule3 (0 ∷ []) ≡ 0
+  pub rank-122 : isRank (1 ∷ 2 ∷ 2 ∷ []) ≡ true
+  pub rank-113 : isRank (1 ∷ 1 ∷ 3 ∷ []) ≡ true
+  pub not-rank-112 : isRank (1 ∷ 1 ∷ 2 ∷ []) ≡ false
+  pub a-6 : a 6 ≡ 4683
+  pub a-16 : a 16 ≡ 5315654681981355
+  pub L-4 : (L 4 0 ∷ L 4 1 ∷ L 4 2 ∷ L 4 3 ∷ L 4 4 ∷ L 4 5 ∷ []) ≡ (0 ∷ 1 ∷ 14 ∷ 36 ∷ 24 ∷ 0 ∷ [])
+  pub height-windows-3 : heightWindows 3 ≡ (
+      (0 ∷ 0 ∷ 0 ∷ [])
+      ∷ (0 ∷ 0 ∷ 1 ∷ [])
+      ∷ (0 ∷ 1 ∷ 0 ∷ [])
+      ∷ (0 ∷ 1 ∷ 1 ∷ [])
+      ∷ (0 ∷ 1 ∷ 2 ∷ [])
+      ∷ (0 ∷ 2 ∷ 1 ∷ [])
+      ∷ (1 ∷ 0 ∷ 0 ∷ [])
+      ∷ (1 ∷ 0 ∷ 1 ∷ [])
+      ∷ (1 ∷ 0 ∷ 2 ∷ [])
+      ∷ (1 ∷ 1 ∷ 0 ∷ [])
+      ∷ (1 ∷ 2 ∷ 0 ∷ [])
+      ∷ (2 ∷ 0 ∷ 1 ∷ [])
+      ∷ (2 ∷ 1 ∷ 0 ∷ [])
+      ∷ [])
+
+-- the windows after the steps 1 to a(n) of a rule
+unfoldable pub roundOf : ℕ → ℕ → List ℕ → List (List ℕ)
+unfolding range iter step ruleOf a
+roundOf r n s = map (λ k. iter (step (ruleOf r)) (suc k) s) (range (a n))
+
+-- the rounds of 1, 2 and 3 symbols, from the window of ones or of zeros
+pub record SmallRounds : Type 0 where
+  pub rule1-of-1 : roundOf 1 1 (1 ∷ []) ≡ (
+      (1 ∷ [])
+      ∷ [])
+  pub rule2-of-1 : roundOf 2 1 (0 ∷ []) ≡ (
+      (0 ∷ [])
+      ∷ [])
+  pub rule3-of-1 : roundOf 3 1 (0 ∷ []) ≡ (
+      (0 ∷ [])
+      ∷ [])
+  pub rule1-of-2 : roundOf 1 2 (1 ∷ 1 ∷ []) ≡ (
+      (1 ∷ 2 ∷ [])
+      ∷ (2 ∷ 1 ∷ [])
+      ∷ (1 ∷ 1 ∷ [])
+      ∷ [])
+  pub rule2-of-2 : roundOf 2 2 (0 ∷ 0 ∷ []) ≡ (
+      (0 ∷ 1 ∷ [])
+      ∷ (1 ∷ 0 ∷ [])
+      ∷ (0 ∷ 0 ∷ [])
+      ∷ [])
+  pub rule3-of-2 : roundOf 3 2 (0 ∷ 0 ∷ []) ≡ (
+      (0 ∷ 1 ∷ [])
+      ∷ (1 ∷ 0 ∷ [])
+      ∷ (0 ∷ 0 ∷ [])
+      ∷ [])
+  pub rule1-of-3 : roundOf 1 3 (1 ∷ 1 ∷ 1 ∷ []) ≡ (
+      (1 ∷ 1 ∷ 3 ∷ [])
+      ∷ (1 ∷ 3 ∷ 2 ∷ [])
+      ∷ (3 ∷ 2 ∷ 1 ∷ [])
+      ∷ (2 ∷ 1 ∷ 3 ∷ [])
+      ∷ (1 ∷ 3 ∷ 1 ∷ [])
+      ∷ (3 ∷ 1 ∷ 2 ∷ [])
+      ∷ (1 ∷ 2 ∷ 2 ∷ [])
+      ∷ (2 ∷ 2 ∷ 1 ∷ [])
+      ∷ (2 ∷ 1 ∷ 2 ∷ [])
+      ∷ (1 ∷ 2 ∷ 3 ∷ [])
+      ∷ (2 ∷ 3 ∷ 1 ∷ [])
+      ∷ (3 ∷ 1 ∷ 1 ∷ [])
+      ∷ (1 ∷ 1 ∷ 1 ∷ [])
+      ∷ [])
+  pub rule2-of-3 : roundOf 2 3 (0 ∷ 0 ∷ 0 ∷ []) ≡ (
+      (0 ∷ 0 ∷ 1 ∷ [])
+      ∷ (0 ∷ 1 ∷ 0 ∷ [])
+      ∷ (1 ∷ 0 ∷ 1 ∷ [])
+      ∷ (0 ∷ 1 ∷ 2 ∷ [])
+      ∷ (1 ∷ 2 ∷ 0 ∷ [])
+      ∷ (2 ∷ 0 ∷ 1 ∷ [])
+      ∷ (0 ∷ 1 ∷ 1 ∷ [])
+      ∷ (1 ∷ 1 ∷ 0 ∷ [])
+      ∷ (1 ∷ 0 ∷ 2 ∷ [])
+      ∷ (0 ∷ 2 ∷ 1 ∷ [])
+      ∷ (2 ∷ 1 ∷ 0 ∷ [])
+      ∷ (1 ∷ 0 ∷ 0 ∷ [])
+      ∷ (0 ∷ 0 ∷ 0 ∷ [])
+      ∷ [])
+  pub rule3-of-3 : roundOf 3 3 (0 ∷ 0 ∷ 0 ∷ []) ≡ (
+      (0 ∷ 0 ∷ 1 ∷ [])
+      ∷ (0 ∷ 1 ∷ 0 ∷ [])
+      ∷ (1 ∷ 0 ∷ 2 ∷ [])
+      ∷ (0 ∷ 2 ∷ 1 ∷ [])
+      ∷ (2 ∷ 1 ∷ 0 ∷ [])
+      ∷ (1 ∷ 0 ∷ 1 ∷ [])
+      ∷ (0 ∷ 1 ∷ 2 ∷ [])
+      ∷ (1 ∷ 2 ∷ 0 ∷ [])
+      ∷ (2 ∷ 0 ∷ 1 ∷ [])
+      ∷ (0 ∷ 1 ∷ 1 ∷ [])
+      ∷ (1 ∷ 1 ∷ 0 ∷ [])
+      ∷ (1 ∷ 0 ∷ 0 ∷ [])
+      ∷ (0 ∷ 0 ∷ 0 ∷ [])
+      ∷ [])
