@@ -7,8 +7,8 @@ use native.Mathlib.Omega.{arith}
 use lib.Dec.{ltb}
 use lib.ListN.{length, getD}
 use Rattle.weak_orders.specs.Tables.{tally}
-use Rattle.weak_orders.specs.Window.{occurs, different}
-use Rattle.weak_orders.proofs.Symbols.{bound, bound-back, different≤bound, different≤length, different-new}
+use Rattle.weak_orders.specs.Window.{occurs, different, bound}
+use Rattle.weak_orders.proofs.Symbols.{bound-back, different≤bound, different≤length, different-new}
 use Rattle.weak_orders.proofs.Tallies.{tally-num}
 use Rattle.weak_orders.proofs.Tests.{by-test}
 use Rattle.ranking.specs.Counts.{waysFrom}

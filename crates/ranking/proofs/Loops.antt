@@ -7,12 +7,12 @@ use native.Mathlib.Omega.{arith}
 use lib.ListN.{length, getD, set, take, drop, length-take, take-append-drop}
 use lib.Seq.{getD-take, take-take}
 use Rattle.weak_orders.specs.Converted.{isHeightWindow}
-use Rattle.weak_orders.specs.Window.{padded}
+use Rattle.weak_orders.specs.Window.{padded, bound}
 use Rattle.weak_orders.proofs.FormTests.{of-height-window}
 use Rattle.weak_orders.proofs.HeightForm.{height-bound}
 use Rattle.weak_orders.proofs.Lists.{getD-in}
 use Rattle.weak_orders.proofs.Padded.{take-padded, padded-next}
-use Rattle.weak_orders.proofs.Symbols.{bound, bound-in, bound-append}
+use Rattle.weak_orders.proofs.Symbols.{bound-in, bound-append}
 use Rattle.ranking.specs.Counts.{sum, a, Found}
 use Rattle.ranking.specs.Dictionary.{completionsWith, place, windowAt}
 use Rattle.ranking.specs.Tables.{Entries}

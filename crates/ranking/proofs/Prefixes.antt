@@ -9,9 +9,9 @@ use native.Mathlib.Decide.{decLe}
 use lib.Dec.{eqb}
 use lib.ListN.{length, length-append}
 use borrow.Author.Tests.{eqb-true, eq-eqb, ne-eqb}
-use Rattle.weak_orders.specs.Window.{count, occurs, different, isHeight}
+use Rattle.weak_orders.specs.Window.{count, occurs, different, isHeight, bound}
 use Rattle.weak_orders.proofs.Lists.{count-cong, count-none}
-use Rattle.weak_orders.proofs.Symbols.{bound, bound-back, different≤bound, different≤length, different-old, different-new}
+use Rattle.weak_orders.proofs.Symbols.{bound-back, different≤bound, different≤length, different-old, different-new}
 use Rattle.weak_orders.proofs.Tests.{by-test, bit}
 use Rattle.ranking.specs.Counts.{sum, a, waysFrom}
 use Rattle.ranking.specs.Dictionary.{strings, heightWindows, begins, completions}

@@ -6,10 +6,10 @@ use native.Mathlib.Nat.{zero-add, suc-add}
 use native.Mathlib.Omega.{arith}
 use lib.ListN.{length}
 use lib.Seq.{append-snoc}
-use Rattle.weak_orders.specs.Window.{range, different}
+use Rattle.weak_orders.specs.Window.{range, different, bound}
 use Rattle.weak_orders.proofs.HeightForm.{says-height, height-form}
 use Rattle.weak_orders.proofs.Lists.{in-range, of-range, length-range}
-use Rattle.weak_orders.proofs.Symbols.{bound, bound-back}
+use Rattle.weak_orders.proofs.Symbols.{bound-back}
 use Rattle.ranking.specs.Counts.{a, ways, waysFrom}
 use Rattle.ranking.proofs.Completions.{endings, endings-suc, endings-ways, endings-all}
 use Rattle.ranking.proofs.Sums.{term≤sum}

@@ -10,9 +10,9 @@ use lib.Dec.{leb}
 use lib.ListN.{length, getD, take, drop, length-take, length-append, take-append-drop}
 use lib.Seq.{append-snoc, take-suc, drop-cons}
 use borrow.Author.Tests.{leb-true, leb-false}
-use Rattle.weak_orders.specs.Window.{isHeight}
+use Rattle.weak_orders.specs.Window.{isHeight, bound}
 use Rattle.weak_orders.proofs.HeightForm.{height-bound}
-use Rattle.weak_orders.proofs.Symbols.{bound, bound-append, bound-back}
+use Rattle.weak_orders.proofs.Symbols.{bound-append, bound-back}
 use Rattle.weak_orders.proofs.Tests.{by-test, bit}
 use Rattle.ranking.specs.Counts.{sum, a, Found}
 use Rattle.ranking.specs.Dictionary.{completions, completionsWith, place, windowAt}

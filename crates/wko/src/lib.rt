@@ -7,6 +7,8 @@ ghost use Prim.Native.Nat.{_≤_};
 ghost use lib.ListN.{length, take, drop};
 ghost use Rattle.refusals.specs.declared.Cause.{Cause};
 ghost use Rattle.ranking.specs.declared.Placed.{Placed};
+ghost use Rattle.weak_orders.specs.Window.{isLength};
+ghost use Rattle.successors.specs.Rules.{isRule};
 ghost use Rattle.wko.specs.Calls.{refusal, lengthTests, given, placeBytes, givenPlace, answerOf};
 ghost use Rattle.wko.specs.Calls.{nextSymbolCall, rankToHeightCall, heightToRankCall, placeCall, windowAtCall};
 use ranking::Placed;
@@ -18,6 +20,20 @@ fn refused(cause: Cause) -> u32
     ensures { λ r. ⌜ r ≡ refusal cause ⌝ }
 {
     256 + refusals::number(cause) as u32
+}
+
+// Test 6.
+fn is_length(n: u64) -> bool
+    ensures { λ r. ⌜ r ≡ isLength n ⌝ }
+{
+    (1 <= n) & (n <= 16)
+}
+
+// Test 7.
+fn is_rule(rule: u64) -> bool
+    ensures { λ r. ⌜ r ≡ isRule rule ⌝ }
+{
+    (1 <= rule) & (rule <= 3)
 }
 
 // A symbol is its own answer.
@@ -35,16 +51,10 @@ fn answer(next: Next) -> u32
 pub extern "C" fn wko_next_symbol(n: u64, rule: u64, window: &[u8]) -> u32
     ensures { λ r. ⌜ r ≡ nextSymbolCall n rule (now (window .entry)) ⌝ }
 {
-    if n == 0 {
+    if !is_length(n) {
         return refused(Cause::WindowLength);
     }
-    if 16 < n {
-        return refused(Cause::WindowLength);
-    }
-    if rule == 0 {
-        return refused(Cause::RuleNumber);
-    }
-    if 3 < rule {
+    if !is_rule(rule) {
         return refused(Cause::RuleNumber);
     }
     if window.len() as u64 != n {
@@ -57,10 +67,7 @@ pub extern "C" fn wko_next_symbol(n: u64, rule: u64, window: &[u8]) -> u32
 fn length_tests(n: u64, need: u64, window: usize, out: usize) -> u32
     ensures { λ r. ⌜ r ≡ lengthTests n need window out ⌝ }
 {
-    if n == 0 {
-        return refused(Cause::WindowLength);
-    }
-    if 16 < n {
+    if !is_length(n) {
         return refused(Cause::WindowLength);
     }
     if (out as u64) < need {

@@ -6,7 +6,8 @@ use mir.Syntax.{w8}
 use mir.Val.{Fits}
 use lib.ListN.{length, take, getD}
 use Rattle.weak_orders.proofs.Parts.{part-more}
-use Rattle.weak_orders.proofs.Symbols.{bound as boundOf, bound-back}
+use Rattle.weak_orders.specs.Window.{bound as boundOf}
+use Rattle.weak_orders.proofs.Symbols.{bound-back}
 use borrow.Author.Needs.{needs}
 use Rattle.ranking.proofs.bound.Statement.{statement}
 use Rattle.ranking.proofs.bound.Tie as tie

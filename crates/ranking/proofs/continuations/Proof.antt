@@ -1,7 +1,7 @@
 -- `ranking::continuations` meets its contract. The loop's invariant: the first v counts are right, in terms of what was found out about
 -- the prefix (`Known`). Assumes nothing.
 use mathlib.Core.Path.{_≡_, refl, ap, _∙_}
-use Prim.Native.Nat.{_-_, _≤_, _<_}
+use Prim.Native.Nat.{_-_, _≤_}
 use native.Mathlib.Omega.{arith}
 use lib.ListN.{length, take, length-take}
 use Rattle.weak_orders.specs.Window.{different}
