@@ -114,3 +114,88 @@ void baseline_walk(int rule, uint8_t *w, int n, uint64_t steps)
         w[n - 1] = (uint8_t)s;
     }
 }
+
+/* L(n, k), filled by its recurrence. */
+static uint64_t by_symbols[17][17];
+
+static void fill_table(void)
+{
+    by_symbols[0][0] = 1;
+    for (int n = 1; n <= 16; n++)
+        for (int k = 1; k <= 16; k++)
+            by_symbols[n][k] = (uint64_t)k * (by_symbols[n - 1][k] + by_symbols[n - 1][k - 1]);
+}
+
+static uint64_t power(uint64_t x, uint64_t k)
+{
+    uint64_t p = 1;
+    while (k-- > 0)
+        p *= x;
+    return p;
+}
+
+/* The ways to fill rest places so that each of the missing heights occurs, any of the present ones being allowed. */
+static uint64_t ways(uint64_t rest, uint64_t missing, uint64_t present)
+{
+    uint64_t total = 0, fillings = 1;
+    if (present == 0)
+        return missing > 16 ? 0 : by_symbols[rest][missing];
+    if (missing == 0)
+        return power(present, rest);
+    if (missing == 1)
+        return power(present + 1, rest) - power(present, rest);
+    while (missing <= rest) {
+        rest--;
+        total += fillings * missing * ways(rest, missing - 1, present + 1);
+        fillings *= present;
+    }
+    return total;
+}
+
+/* For each symbol below n: the height windows that begin with the first i symbols of w and it. */
+static void continuations(const uint8_t *w, int n, int i, uint64_t *counts)
+{
+    int seen[17] = {0}, top = 0, present = 0;
+    uint64_t totals[17], total = 0;
+    for (int j = 0; j < i; j++) {
+        present += !seen[w[j]];
+        seen[w[j]] = 1;
+        if (w[j] + 1 > top)
+            top = w[j] + 1;
+    }
+    for (int m = 16; m >= 0; m--) {
+        total += ways((uint64_t)(n - 1 - i), (uint64_t)m, (uint64_t)present);
+        totals[m] = total;
+    }
+    for (int v = 0; v < n; v++) {
+        int missing = (top > v + 1 ? top : v + 1) - present;
+        counts[v] = seen[v] ? totals[missing] : totals[missing - 1] + totals[missing];
+    }
+}
+
+uint64_t baseline_place(const uint8_t *w, int n)
+{
+    uint64_t counts[16], place = 0;
+    if (by_symbols[0][0] == 0)
+        fill_table();
+    for (int i = 0; i < n; i++) {
+        continuations(w, n, i, counts);
+        for (int v = 0; v < w[i]; v++)
+            place += counts[v];
+    }
+    return place;
+}
+
+void baseline_window_at(int n, uint64_t place, uint8_t *w)
+{
+    uint64_t counts[16];
+    if (by_symbols[0][0] == 0)
+        fill_table();
+    for (int i = 0; i < n; i++) {
+        int v = 0;
+        continuations(w, n, i, counts);
+        while (counts[v] <= place)
+            place -= counts[v++];
+        w[i] = (uint8_t)v;
+    }
+}

@@ -5,4 +5,8 @@
 
 /* Steps of a rule from a window, in place; the rules as in the source paper, with the least rotation found in O(n). */
 void baseline_walk(int rule, uint8_t *w, int n, uint64_t steps);
+
+/* The place of a height window and the window at a place, by the library's own algorithm: a recursive count of completions. */
+uint64_t baseline_place(const uint8_t *w, int n);
+void baseline_window_at(int n, uint64_t place, uint8_t *w);
 #endif

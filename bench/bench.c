@@ -51,11 +51,54 @@ static void steps(int rule, int n, uint64_t count)
            sum ? "   THE ANSWERS DIFFER" : "");
 }
 
+static uint64_t random64(void)
+{
+    static uint64_t x = 0x9E3779B97F4A7C15u;
+    x ^= x >> 12;
+    x ^= x << 25;
+    x ^= x >> 27;
+    return x * 0x2545F4914F6CDD1Du;
+}
+
+/* The same random windows both ways, there and back, with the tests of the C calls on the proved side. */
+static void places(int n, int count)
+{
+    static const uint64_t a[17] = {[8] = 545835, [12] = 28091567595, [16] = 5315654681981355};
+    double place_c = 0, place_r = 0, window_c = 0, window_r = 0;
+    unsigned differ = 0;
+    for (int k = 0; k < count; k++) {
+        uint64_t at = random64() % a[n], found = 0;
+        uint8_t w[16] = {0}, v[16] = {0}, bytes[8];
+        double t0 = now(), t1, t2, t3, t4;
+        baseline_window_at(n, at, w);
+        t1 = now();
+        wko_window_at((uint64_t)n, at, v, 16);
+        t2 = now();
+        differ += baseline_place(w, n) != at;
+        t3 = now();
+        wko_place((uint64_t)n, v, (size_t)n, bytes, 8);
+        t4 = now();
+        for (int i = 0; i < 8; i++)
+            found |= (uint64_t)bytes[i] << (8 * i);
+        differ += found != at || memcmp(v, w, 16) != 0;
+        window_c += t1 - t0;
+        window_r += t2 - t1;
+        place_c += t3 - t2;
+        place_r += t4 - t3;
+    }
+    printf("n = %2d   place: C %8.1f us, wko_place %8.1f us (%.2f of C)   window: C %8.1f us, wko_window_at %8.1f us (%.2f of C)%s\n", n,
+           1e6 * place_c / count, 1e6 * place_r / count, place_r / place_c, 1e6 * window_c / count, 1e6 * window_r / count,
+           window_r / window_c, differ ? "   THE ANSWERS DIFFER" : "");
+}
+
 int main(void)
 {
     printf("One step along the cycle: plain C without tests; the proved step; the C call with all its tests.\n");
     for (int rule = 1; rule <= 3; rule++)
         for (int n = 8; n <= 16; n += 4)
             steps(rule, n, 2000000);
+    printf("\nThe place of a random height window, and the window at a random place.\n");
+    for (int n = 8; n <= 16; n += 4)
+        places(n, n == 16 ? 500 : 5000);
     return 0;
 }
