@@ -4,8 +4,6 @@ use native.Mathlib.Omega.{arith}
 use mathlib.Core.Path.{_≡_, refl, sym, ap, _∙_}
 use mathlib.Core.Logic.{_⊎_, ⊎-elim}
 use Rattle.weak_orders.proofs.Iterates.{_⇝⟨_⟩_, along, stay, on, _⨟_, first-step, push, last-step, back}
-use Rattle.ranking.specs.Counts.{L}
-use Rattle.ranking.specs.Dictionary.{place}
 use Rattle.ranking.specs.Numbering.{Numbering}
 use Rattle.universal_cycle.specs.Round.{Tour}
 use Rattle.universal_cycle.proofs.Tours.{tour}

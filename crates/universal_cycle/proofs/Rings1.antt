@@ -18,7 +18,6 @@ use Rattle.weak_orders.proofs.Rotations.{round, turn, _⟳_, turned, swing, ⟳
 use Rattle.weak_orders.proofs.Rotations.{least, Start, start-first}
 use Rattle.weak_orders.proofs.Symbols.{num-mem, below-zero, below-flat}
 use Rattle.weak_orders.proofs.Tests.{_∈_, here, nowhere, true?, says?, says-all}
-use Rattle.ranking.specs.Counts.{a}
 use Rattle.successors.specs.Rules.{before, rule1}
 use Rattle.successors.proofs.FirstSymbol.{change}
 use Rattle.successors.proofs.Rule1.{Case1, Case3, exit1, Exit1, says-exit1, weight, weight-le, case1-under, exit-partner, other-partner, rank-change}

@@ -13,7 +13,6 @@ use Rattle.weak_orders.proofs.Iterates.{stay, _⨟_}
 use Rattle.weak_orders.proofs.Lists.{mem-replicate, all-same, total, total-le}
 use Rattle.weak_orders.proofs.Rotations.{round, turn, _⟳_, turned, ⟳-sym, length-ring, total-ring, mem-ring, greatest}
 use Rattle.weak_orders.proofs.Tests.{true?, says?}
-use Rattle.ranking.specs.Counts.{a}
 use Rattle.successors.specs.Rules.{inR, rule2, rule3}
 use Rattle.successors.proofs.FirstSymbol.{change}
 use Rattle.successors.proofs.Rules23.{Spot, out, low₂, high₂, low₃, mid₃, high₃, spot, Cycle, Moves, moves2, moves3, height-change}

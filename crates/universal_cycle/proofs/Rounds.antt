@@ -11,8 +11,7 @@ use mathlib.Core.Bool.{true}
 use borrow.Author.Tests.{leb-true}
 use Rattle.weak_orders.proofs.Rotations.{turn}
 use Rattle.weak_orders.proofs.Tests.{says-itself, says-and}
-use Rattle.ranking.specs.Counts.{L, a}
-use Rattle.ranking.specs.Dictionary.{place}
+use Rattle.ranking.specs.Counts.{a}
 use Rattle.ranking.specs.Numbering.{Numbering}
 use Rattle.ranking.proofs.Places.{heights-numbered, ranks-numbered}
 use Rattle.successors.specs.Rules.{rule1, rule2, rule3, ruleOf, inForm, isRule, step}

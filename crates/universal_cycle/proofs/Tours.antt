@@ -8,10 +8,7 @@ use mathlib.Core.Logic.{_≢_}
 use mathlib.Core.Path.{_≡_, refl, sym, ap, _∙_}
 use Rattle.weak_orders.specs.Window.{iter}
 use Rattle.weak_orders.proofs.Iterates.{_⇝⟨_⟩_, by, iter-first, iter-add, along}
-use Rattle.ranking.specs.Counts.{L}
-use Rattle.ranking.specs.Dictionary.{place}
 use Rattle.ranking.specs.Numbering.{Numbering}
-use Rattle.successors.specs.Rules.{before}
 use Rattle.universal_cycle.specs.Round.{Tour}
 use Rattle.universal_cycle.proofs.Pigeonhole.{pigeonhole}
 

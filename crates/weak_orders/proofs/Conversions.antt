@@ -13,7 +13,7 @@ use Rattle.weak_orders.proofs.Lists.{map-cong, map-map, map-same}
 use Rattle.weak_orders.proofs.RankForm.{says-rank}
 use Rattle.weak_orders.proofs.Symbols.{occurs-in, in-occurs, below-zero, below-mono, below-strict, below-map, ltb-same, height-zero, height-step, height-mono}
 use Rattle.weak_orders.proofs.Symbols.{height-strict, height-past, height-find}
-use Rattle.weak_orders.proofs.Tests.{_∈_, here, by-test}
+use Rattle.weak_orders.proofs.Tests.{_∈_, by-test}
 
 -- ranks and heights keep the order of symbols, so also the number of smaller ones
 pub below-ranks : (w : List ℕ) (x : ℕ) → below (ranks w) (suc (below w x)) ≡ below w x

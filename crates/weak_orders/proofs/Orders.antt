@@ -9,7 +9,6 @@ use native.Mathlib.Decide.{decLt, ℕ-discrete}
 use borrow.Author.Tests.{lt-ltb, le-ltb, eq-eqb, ne-eqb, not-true}
 use Rattle.weak_orders.specs.Order.{lexLe, lexLt}
 use Rattle.weak_orders.specs.Says.{Says}
-use Rattle.weak_orders.proofs.Lists.{total}
 use Rattle.weak_orders.proofs.Tests.{_∈_, here, there, split-mem, says-as, says-lt}
 
 -- the order of two strings with a first symbol each
