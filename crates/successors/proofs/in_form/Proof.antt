@@ -1,6 +1,4 @@
 -- `in_form` is the test of the form by the rule's number. Assumes nothing.
-use mathlib.Core.Bool.{_&&_}
-use mathlib.Core.Path.{_≡_}
 use borrow.Author.Needs.{needs}
 use lib.ListN.{take}
 use Rattle.weak_orders.specs.Converted.{isRankWindow, isHeightWindow}

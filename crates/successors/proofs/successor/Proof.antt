@@ -1,8 +1,7 @@
 -- `successor` is the rule with the number. Assumes nothing.
 use mathlib.Core.List.{List}
-use mathlib.Core.Path.{_≡_, sym, _∙_}
+use mathlib.Core.Path.{sym, _∙_}
 use Prim.Native.Nat.{ℕ, _≤_}
-use borrow.Author.Needs.{needs}
 use lib.ListN.{take}
 use Rattle.weak_orders.proofs.FormTests.{says-length}
 use Rattle.successors.proofs.RuleNumbers.{form-rank, form-height, is-rule1, is-rule2, is-rule3}

@@ -1,10 +1,9 @@
 -- `all_behind` looks for each symbol from a up to x. The loop's invariant: the test of all of them is the test of those from v on.
 -- The measure is what is left of x. Assumes nothing.
 use denote.Ref.{now}
-use mathlib.Core.Bool.{Bool, true, false}
 use mathlib.Core.List.{List}
-use mathlib.Core.Path.{_≡_, sym, ap, _∙_}
-use Prim.Native.Nat.{ℕ, _≤_, _<_, _-_}
+use mathlib.Core.Path.{_≡_, sym, _∙_}
+use Prim.Native.Nat.{ℕ, _≤_, _-_}
 use native.Mathlib.Omega.{arith}
 use borrow.Author.Needs.{needs}
 use borrow.Author.Tests.{not-true, not-false}

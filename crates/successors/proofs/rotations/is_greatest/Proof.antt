@@ -2,13 +2,13 @@
 -- window itself comes first. The measure is what is left of n. Assumes nothing.
 use mathlib.Core.List.{List}
 use mathlib.Core.Path.{_≡_, sym}
-use Prim.Native.Nat.{ℕ, _≤_, _<_, _-_}
+use Prim.Native.Nat.{ℕ, _≤_, _-_}
 use native.Mathlib.Omega.{arith}
 use borrow.Author.Needs.{needs}
 use lib.ListN.{length, take}
-use lib.Seq.{length-take-le}
 use Rattle.weak_orders.specs.Rotation.{rotation}
 use Rattle.successors.proofs.RotationSearch.{lexGe, downward, First, first-one, first-stays, greatest-yes, greatest-no, not-before, is-before}
+use Rattle.successors.proofs.Windows.{InArray, size}
 use Rattle.successors.proofs.rotations.is_greatest.Statement.{statement}
 use Rattle.successors.proofs.rotations.is_greatest.Tie as tie
 
@@ -22,8 +22,8 @@ abbrev μ-loop : tie.MeasureT-loop
 abbrev window : tie.Start Inv-loop μ-loop → List ℕ
 window s = take (s .args .n) (s .args .t1)
 
-size : (s : tie.Start Inv-loop μ-loop) → length (window s) ≡ s .args .n
-size s = let l : length (s .args .t1) ≡ 16 = search needs in length-take-le (s .args .n) (s .args .t1) (omega arith)
+array : (s : tie.Start Inv-loop μ-loop) → InArray (s .args .t1) (s .args .n)
+array s = record { long = search needs; some = s .pre .0; most = s .pre .1 }
 
 loop-holds : tie.Need-loop-holds Inv-loop μ-loop
 loop-holds c = (search needs, first-one downward (window c))
@@ -35,7 +35,7 @@ returns : tie.Need-returns Inv-loop μ-loop
 returns c =
     let p = c .before .before .before .before in
     let at = rotation (window (p .before)) in
-    sym (greatest-no (window (p .before)) (p .loop .j) (omega (arith, size (p .before)))
+    sym (greatest-no (window (p .before)) (p .loop .j) (omega (arith, size (array (p .before))))
     (is-before (at 0) (at (p .loop .j)) (c .before .precedes .ensures) (c .if1 .taken)))
 
 add-j : tie.Need-add-j Inv-loop μ-loop
@@ -57,7 +57,7 @@ loop-again c =
 returns-2 : tie.Need-returns-2 Inv-loop μ-loop
 returns-2 c =
     let p = c .before in
-    let e : p .loop .j ≡ length (window (p .before)) = omega (arith, size (p .before)) in
+    let e : p .loop .j ≡ length (window (p .before)) = omega (arith, size (array (p .before))) in
     sym (greatest-yes (window (p .before)) (rw e at (p .loop .inv .1)))
 
 pub is-greatest-spec : {M : Type 1} → statement M

@@ -3,14 +3,14 @@
 use mathlib.Core.List.{List}
 use mathlib.Core.Logic.{⊎-elim}
 use mathlib.Core.Path.{_≡_}
-use Prim.Native.Nat.{ℕ, _≤_, _<_, _-_}
+use Prim.Native.Nat.{ℕ, _≤_, _-_}
 use native.Mathlib.Omega.{arith}
 use borrow.Author.Needs.{needs}
 use lib.ListN.{length, take}
-use lib.Seq.{length-take-le}
 use Rattle.weak_orders.specs.Order.{lexLe}
 use Rattle.weak_orders.specs.Rotation.{rotation}
 use Rattle.successors.proofs.RotationSearch.{upward, First, first-one, first-stays, first-moves, least-start, not-before, is-before}
+use Rattle.successors.proofs.Windows.{InArray, size}
 use Rattle.successors.proofs.rotations.least_rotation.Statement.{statement}
 use Rattle.successors.proofs.rotations.least_rotation.Tie as tie
 
@@ -24,8 +24,8 @@ abbrev μ-loop : tie.MeasureT-loop
 abbrev window : tie.Start Inv-loop μ-loop → List ℕ
 window s = take (s .args .n) (s .args .t1)
 
-size : (s : tie.Start Inv-loop μ-loop) → length (window s) ≡ s .args .n
-size s = let l : length (s .args .t1) ≡ 16 = search needs in length-take-le (s .args .n) (s .args .t1) (omega arith)
+array : (s : tie.Start Inv-loop μ-loop) → InArray (s .args .t1) (s .args .n)
+array s = record { long = search needs; some = s .pre .0; most = s .pre .1 }
 
 loop-holds : tie.Need-loop-holds Inv-loop μ-loop
 loop-holds c = (search needs, first-one upward (window c))
@@ -60,7 +60,7 @@ add-start c = let s = c .before .loop .inv .1 in search needs
 returns : tie.Need-returns Inv-loop μ-loop
 returns c =
     let p = c .before in
-    let e : p .loop .j ≡ length (window (p .before)) = omega (arith, size (p .before)) in
+    let e : p .loop .j ≡ length (window (p .before)) = omega (arith, size (array (p .before))) in
     least-start (window (p .before)) (p .loop .least) (rw e at (p .loop .inv .1))
 
 pub least-rotation-spec : {M : Type 1} → statement M
