@@ -1,0 +1,54 @@
+-- Signed numbers: two's complement of 16 and 32 bits, and how large a difference is. Assumes nothing.
+use mathlib.Core.Bool.{Bool, true, false, cond}
+use mathlib.Core.Path.{_≡_, refl, ap}
+use Prim.Native.Nat.{ℕ, zero, suc, _+_, _-_, _≤_, _<_, _^_}
+use native.Mathlib.Omega.{arith}
+use lib.Dec.{ltb}
+use lib.IntN.{ℤ, pos, negsuc, subℕ, _+ℤ_, _-ℤ_}
+use lib.Signed.{mag, ltZ}
+use borrow.Author.Tests.{le-ltb, lt-ltb, ltb-true, ltb-false}
+use mir.Syntax.{w16, w32}
+use mir.Val.{SFits}
+use Rattle.frames.specs.Fields.{bits32, signed16}
+
+-- Two's complement.
+pub lifted : (z : ℤ) → SFits w32 z → ltZ z (pos 0) ≡ true → z +ℤ pos 4294967296 ≡ pos (bits32 z)
+lifted (pos n) h e = absurd (let l : n < 0 = ltb-true n 0 e in omega arith)
+lifted (negsuc n) h e =
+    let l : suc n ≤ 4294967296 = omega (arith, h .sfits) in
+    let q : 4294967296 - suc n ≡ 4294967295 - n = omega arith in
+    rw (le-ltb 4294967296 (suc n) l) (ap pos q)
+
+pub kept : (z : ℤ) → ltZ z (pos 0) ≡ false → z ≡ pos (bits32 z)
+kept (pos n) e = refl
+kept (negsuc n) e = absurd (let l : _≡_ {A = ℕ} 0 1 = cc in omega arith)
+
+pub bits32-lt : (z : ℤ) → SFits w32 z → bits32 z < 2 ^ 32
+bits32-lt (pos n) h = omega (arith, h .sfits)
+bits32-lt (negsuc n) h = omega arith
+
+pub lowered-bits : (x : ℕ) → 32768 ≤ x → x < 2 ^ 16 → pos x -ℤ pos 65536 ≡ signed16 x
+lowered-bits x h l =
+    let q : 65536 - suc x ≡ 65535 - x = omega arith in
+    rw (lt-ltb x 65536 l, le-ltb x 32768 h) (ap negsuc q)
+
+pub signed16-fits : (x : ℕ) → x < 2 ^ 16 → SFits w16 (signed16 x)
+signed16-fits x l = fits (ltb x 32768) refl
+  where
+    fits : (b : Bool) → ltb x 32768 ≡ b → SFits w16 (cond b (pos x) (negsuc (65535 - x)))
+    fits true e = record { sfits = omega (arith, ltb-true x 32768 e) }
+    fits false e = record { sfits = omega (arith, ltb-false x 32768 e) }
+
+-- The size of a difference.
+pick-mag : (t : Bool) (m n k : ℕ) → m ≤ k → n ≤ k → mag (cond t (negsuc m) (pos n)) ≤ k
+pick-mag true m n k p q = p
+pick-mag false m n k p q = q
+
+sub-mag : (a b : ℕ) → mag (subℕ a b) ≤ a + b
+sub-mag a b = pick-mag (ltb a b) _ _ (a + b) (omega arith) (omega arith)
+
+pub lower-mag : (x : ℤ) (n : ℕ) → mag (x -ℤ pos n) ≤ mag x + n + 1
+lower-mag (pos a) zero = omega arith
+lower-mag (pos a) (suc n) = omega (arith, sub-mag a (suc n))
+lower-mag (negsuc a) zero = omega (arith, sub-mag zero (suc a))
+lower-mag (negsuc a) (suc n) = omega arith

@@ -1,0 +1,34 @@
+-- `with_window` meets its contract: the copy takes the place of the last sixteen bytes. Assumes nothing.
+use mathlib.Core.Path.{_≡_}
+use lib.ListN.{length}
+use borrow.Author.Needs.{needs}
+use Rattle.frames.proofs.Padding.{end-copied}
+use Rattle.frames.proofs.answer.with_window.Statement.{statement}
+use Rattle.frames.proofs.answer.with_window.Tie as tie
+
+slice-aggregate-copy : tie.Need-slice-aggregate-copy
+slice-aggregate-copy c = search needs
+
+sub-copy : tie.Need-sub-copy
+sub-copy c = search needs
+
+part-a-start : tie.Need-part-a-start
+part-a-start c = search needs
+
+part-a-end : tie.Need-part-a-end
+part-a-end c = search needs
+
+copy-requires : tie.Need-copy-requires
+copy-requires c κs = search needs
+
+returns : tie.Need-returns
+returns c =
+    let a = c .before .before .before .before .args in
+    let l : length (a .answer) ≡ 40 = search needs in
+    let lw : length (a .t2) ≡ 16 = search needs in
+    end-copied 24 16 (a .answer) (a .t2) _ l lw (c .before .copy .ensures .1)
+
+pub with-window-spec : {M : Type 1} → statement M
+with-window-spec =
+    tie.close
+    (tie.spec slice-aggregate-copy sub-copy part-a-start part-a-end copy-requires returns)

@@ -1,0 +1,59 @@
+-- `lowered` meets its contract: the product is below 2 ^ 24, so that nothing wraps. Assumes nothing.
+use Prim.Native.Nat.{_*_, _≤_, _<_, _^_}
+use native.Mathlib.Nat.{mul-le-mul}
+use native.Mathlib.Omega.{arith}
+use lib.IntN.{pos, _-ℤ_}
+use mir.Facts.{toZ-ofZ, toZ-pos, sfits-widen}
+use mir.Syntax.{w16, w32}
+use mir.Val.{SFits}
+use borrow.Author.Needs.{needs}
+use Rattle.frames.proofs.Signed.{lower-mag}
+use Rattle.frames.proofs.level.lowered.Statement.{statement}
+use Rattle.frames.proofs.level.lowered.Tie as tie
+
+below : (s : tie.Start) → s .args .count * s .args .setting .spacing ≤ 255 * 65535
+below s =
+    let p : s .args .count < 2 ^ 8 = search needs in
+    let q : s .args .setting .spacing < 2 ^ 16 = search needs in
+    let p′ : s .args .count ≤ 255 = omega arith in
+    let q′ : s .args .setting .spacing ≤ 65535 = omega arith in
+    mul-le-mul p′ q′
+
+top-fits : (s : tie.Start) → SFits w16 (s .args .setting .top)
+top-fits s = search needs
+
+level-fits : (s : tie.Start) → SFits w32 (s .args .setting .top -ℤ pos (s .args .count * s .args .setting .spacing))
+level-fits s =
+    let h = top-fits s in
+    record { sfits = omega (arith, below s, lower-mag (s .args .setting .top) (s .args .count * s .args .setting .spacing), h .sfits) }
+
+cast-drop : tie.Need-cast-drop
+cast-drop c = search needs
+
+mul-drop : tie.Need-mul-drop
+mul-drop c = record { fits = omega (arith, below (c .before)) }
+
+cast-result : tie.Need-cast-result
+cast-result c = rw (toZ-ofZ (top-fits (c .before))) (sfits-widen tt (top-fits (c .before)))
+
+cast-result-2 : tie.Need-cast-result-2
+cast-result-2 c = record { sfits = omega (arith, below (c .before)) }
+
+sub-result : tie.Need-sub-result
+sub-result c =
+    let s = c .before in
+    let h = top-fits s in
+    let e : SFits w32 (s .args .setting .top) = sfits-widen tt h in
+    let d = toZ-pos w32 {n = s .args .count * s .args .setting .spacing} (omega (arith, below s)) in
+    rw (toZ-ofZ h, toZ-ofZ e, d) (level-fits s)
+
+returns : tie.Need-returns
+returns c =
+    let s = c .before in
+    let h = top-fits s in
+    let e : SFits w32 (s .args .setting .top) = sfits-widen tt h in
+    let d = toZ-pos w32 {n = s .args .count * s .args .setting .spacing} (omega (arith, below s)) in
+    rw (toZ-ofZ h, toZ-ofZ e, d, toZ-ofZ (level-fits s))
+
+pub lowered-spec : {M : Type 1} → statement M
+lowered-spec = tie.close (tie.spec cast-drop mul-drop cast-result cast-result-2 sub-result returns)

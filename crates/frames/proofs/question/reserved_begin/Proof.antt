@@ -1,0 +1,18 @@
+-- `reserved_begin` meets its contract, by that of `zeros_in`. Assumes nothing.
+use Rattle.frames.specs.Question.{reservedB}
+use borrow.Author.Needs.{needs}
+use Rattle.frames.proofs.question.reserved_begin.Statement.{statement}
+use Rattle.frames.proofs.question.reserved_begin.Tie as tie
+
+zeros-in-requires : tie.Need-zeros-in-requires
+zeros-in-requires c κs = search needs
+
+zeros-in-requires-2 : tie.Need-zeros-in-requires-2
+zeros-in-requires-2 c κs = search needs
+
+returns : tie.Need-returns
+unfolding reservedB
+returns c = rw (c .before .zeros-in .ensures, c .zeros-in2 .ensures)
+
+pub reserved-begin-spec : {M : Type 1} → statement M
+reserved-begin-spec = tie.close (tie.spec zeros-in-requires zeros-in-requires-2 returns)

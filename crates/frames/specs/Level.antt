@@ -1,0 +1,23 @@
+-- Levels and the level setting (document 01, "Level" and refusal 9), in hundredths of a dBm.
+use mathlib.Core.Bool.{Bool, cond, _&&_}
+use Prim.Native.Nat.{ℕ, _-_, _*_}
+use lib.Dec.{leb, eqb}
+use lib.IntN.{ℤ, pos, negsuc, _-ℤ_}
+use lib.Signed.{leZ}
+use Rattle.frames.specs.declared.level.Setting.{Setting}
+
+-- document 01's d: symbol - 1 in rank form (rule 1), the symbol itself in height form (rules 2 and 3)
+unfoldable pub spacings : ℕ → ℕ → ℕ
+spacings rule symbol = cond (eqb rule 1) (symbol - 1) symbol
+
+-- the level of a symbol: top - d × spacing
+unfoldable pub levelOf : ℕ → Setting → ℕ → ℤ
+unfolding spacings
+levelOf rule s symbol = s .top -ℤ pos (spacings rule symbol * s .spacing)
+
+-- what test 9 asks: top in -10000 … 2000, spacing in 1 … 500, and top - (n - 1) × spacing not below -12000
+unfoldable pub settingOk : ℕ → Setting → Bool
+settingOk n s =
+    (leZ (negsuc 9999) (s .top) && leZ (s .top) (pos 2000))
+    && ((leb 1 (s .spacing) && leb (s .spacing) 500)
+    && leZ (negsuc 11999) (s .top -ℤ pos ((n - 1) * s .spacing)))

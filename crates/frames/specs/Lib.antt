@@ -1,0 +1,4 @@
+pub mod Fields
+pub mod Level
+pub mod Question
+pub mod Answer

@@ -1,0 +1,76 @@
+// The reply to a frame, and the forty bytes of its answer.
+ghost use mathlib.Core.List.{_++_, [], _∷_};
+ghost use mathlib.Core.Path.{_≡_};
+ghost use lib.ListN.{take, drop, replicate};
+ghost use Rattle.frames.specs.Fields.{bytes32, bytes64, bits32};
+ghost use Rattle.frames.specs.Answer.{wka1, answerBytes};
+ghost use Rattle.refusals.specs.Numbers.{causeNumber};
+use crate::field;
+use refusals::Cause;
+
+// What a frame is answered. A begin or a query frame has symbol and level 0.
+pub enum Reply {
+    Accepted { symbol: u8, level: i32 },
+    Refused(Cause),
+}
+
+// An answer with WKA1 in its first four bytes.
+fn with_header(answer: [u8; 40]) -> [u8; 40]
+    ensures { λ r. ⌜ r ≡ wka1 ++ drop 4 answer ⌝ }
+{
+    let mut a = answer;
+    bytes::copy(b"WKA1", &mut a);
+    a
+}
+
+// An answer with the window in its last sixteen bytes.
+fn with_window(answer: [u8; 40], w: [u8; 16]) -> [u8; 40]
+    ensures { λ r. ⌜ r ≡ take 24 answer ++ w ⌝ }
+{
+    let mut a = answer;
+    bytes::copy(&w, &mut a[24..]);
+    a
+}
+
+// Bytes 4 to 23 of an accepted answer, the others zero; `bits` is the level in two's complement.
+fn state_fields(symbol: u8, different: u8, done: u64, bits: u32) -> [u8; 40]
+    ensures { λ r. ⌜ r ≡ replicate 5 0 ++ (symbol ∷ different ∷ 0 ∷ []) ++ bytes64 done ++ bytes32 bits ++ replicate 20 0 ⌝ }
+{
+    let mut a = [0u8; 40];
+    a[5] = symbol;
+    a[6] = different;
+    a[8] = (done % 256) as u8;
+    a[9] = (done / 256 % 256) as u8;
+    a[10] = (done / 65536 % 256) as u8;
+    a[11] = (done / 16777216 % 256) as u8;
+    a[12] = (done / 4294967296 % 256) as u8;
+    a[13] = (done / 1099511627776 % 256) as u8;
+    a[14] = (done / 281474976710656 % 256) as u8;
+    a[15] = (done / 72057594037927936) as u8;
+    a[16] = (bits % 256) as u8;
+    a[17] = (bits / 256 % 256) as u8;
+    a[18] = (bits / 65536 % 256) as u8;
+    a[19] = (bits / 16777216) as u8;
+    a
+}
+
+// WKA1, the number, 35 zeros.
+fn refusal_bytes(cause: Cause) -> [u8; 40]
+    ensures { λ r. ⌜ r ≡ wka1 ++ (causeNumber cause ∷ []) ++ replicate 35 0 ⌝ }
+{
+    let mut a = [0u8; 40];
+    a[4] = refusals::number(cause);
+    with_header(a)
+}
+
+pub fn answer_bytes(reply: Reply, different: u8, done: u64, window: [u8; 16]) -> [u8; 40]
+    ensures { λ r. ⌜ r ≡ answerBytes reply different done window ⌝ }
+{
+    match reply {
+        Reply::Accepted { symbol, level } => {
+            let fields = state_fields(symbol, different, done, field::bits_of(level));
+            with_header(with_window(fields, window))
+        }
+        Reply::Refused(cause) => refusal_bytes(cause),
+    }
+}

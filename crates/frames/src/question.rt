@@ -1,0 +1,72 @@
+// The fields of a question, in its forty bytes.
+ghost use mathlib.Core.Path.{_≡_};
+ghost use Prim.Native.Nat.{_+_, _≤_};
+ghost use Rattle.frames.specs.Fields.{part, zeros};
+ghost use Rattle.frames.specs.Question.{isQuestion, numberIn, settingIn, windowIn, reservedB, reservedS, reservedQ};
+use crate::field;
+use crate::level::Setting;
+
+// Bytes 0–3 are WKO1.
+pub fn is_question(f: [u8; 40]) -> bool
+    ensures { λ r. ⌜ r ≡ isQuestion f ⌝ }
+{
+    check::same(&f[..4], b"WKO1")
+}
+
+// The `count` bytes from `from` on are zero.
+fn zeros_in(f: [u8; 40], from: usize, count: usize) -> bool
+    requires { ⌜ from + count ≤ 40 ⌝ }
+    ensures { λ r. ⌜ r ≡ zeros (part f from count) ⌝ }
+{
+    let end = from + count;
+    let mut i = from;
+    while i < end {
+        if f[i] != 0 {
+            return false;
+        }
+        i += 1;
+    }
+    true
+}
+
+// Test 5 for a begin, a step and a query frame.
+pub fn reserved_begin(f: [u8; 40]) -> bool
+    ensures { λ r. ⌜ r ≡ reservedB f ⌝ }
+{
+    zeros_in(f, 7, 9) & zeros_in(f, 20, 4)
+}
+
+pub fn reserved_step(f: [u8; 40]) -> bool
+    ensures { λ r. ⌜ r ≡ reservedS f ⌝ }
+{
+    zeros_in(f, 5, 3) & zeros_in(f, 16, 24)
+}
+
+pub fn reserved_query(f: [u8; 40]) -> bool
+    ensures { λ r. ⌜ r ≡ reservedQ f ⌝ }
+{
+    zeros_in(f, 5, 35)
+}
+
+pub fn number_in(f: [u8; 40]) -> u64
+    ensures { λ r. ⌜ r ≡ numberIn f ⌝ }
+{
+    field::u64_at(f, 8)
+}
+
+pub fn setting_in(f: [u8; 40]) -> Setting
+    ensures { λ r. ⌜ r ≡ settingIn f ⌝ }
+{
+    Setting {
+        top: field::signed_of(field::u16_at(f, 16)),
+        spacing: field::u16_at(f, 18),
+    }
+}
+
+pub fn window_in(f: [u8; 40]) -> [u8; 16]
+    ensures { λ r. ⌜ r ≡ windowIn f ⌝ }
+{
+    let mut w = [0u8; 16];
+    bytes::copy(&f[24..40], &mut w);
+    w
+}

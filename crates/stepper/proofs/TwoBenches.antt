@@ -1,0 +1,296 @@
+-- Two sessions, one round: the proof of demand 3. Assumes nothing.
+use mathlib.Core.Bool.{true, false, cond, false≢true}
+use mathlib.Core.List.{List, [], _∷_, _++_, map}
+use mathlib.Core.Option.{some}
+use mathlib.Core.Path.{_≡_, refl, sym, ap, _∙_, subst}
+use Prim.Native.Nat.{ℕ, zero, suc, _+_, _-_, _≤_, _<_}
+use native.Mathlib.Omega.{arith}
+use native.Mathlib.Decide.{decLt}
+use lib.ListN.{length, take, drop, replicate, getElem?}
+use lib.Seq.{take-at, drop-at, take-length}
+use Rattle.weak_orders.specs.Window.{padded}
+use Rattle.weak_orders.proofs.Padded.{length-padded}
+use Rattle.weak_orders.proofs.Tests.{by-test}
+use Rattle.refusals.specs.declared.Cause.{Cause}
+use Rattle.refusals.specs.declared.Cause.the-variants.{ShortBuffer}
+use Rattle.frames.specs.Question.{kindIn, letterB, letterS, numberIn}
+use Rattle.frames.specs.Answer.{accepted, answerBytes, stepReply}
+use Rattle.stepper.specs.declared.Exchanged.{Exchanged}
+use Rattle.stepper.specs.declared.Session.{Session}
+use Rattle.stepper.specs.Exchange.{refuse, stepped, answerTo, Outcome, exchange}
+use Rattle.stepper.specs.TwoBenches.{Arrival, isNext, accepts, counted, countFrom, roundOf, countOf, causeAt, windowAfter, sessionAt}
+use Rattle.stepper.specs.TwoBenches.{replyAt, answerAt, Request, arrival, run, after, InOrder, StepFrames, Position, Answered}
+use Rattle.stepper.specs.TwoBenches.{TurnedDown, SameAnswer, numbersAfter, firsts, TwoBenches, Demand3}
+use Rattle.stepper.proofs.Handling.{written, room, no-room, begin-taken}
+use Rattle.stepper.proofs.Standing.{Good, good, standing, listing, held, begin-at, step-handled, short-refused}
+use Rattle.stepper.proofs.Counting.{Verdict, next, resend, neither, verdict, says-next, number-between, counted-next, counted-same, counted-le, count-le, count-ge, next-of, in-order}
+
+-- ---- lists of requests, whatever the frames
+
+-- what a request comes to in a session
+abbrev one : Session → Request → Outcome
+one s x = exchange s (x .frame) (x .buffer)
+
+run-long : (s : Session) (l : List Request) → length (run s l) ≡ length l
+unfolding run
+run-long s [] = refl
+run-long s (x ∷ l) = ap suc (run-long (one s x .0 .session) l)
+
+-- each position runs on what the frames before it left
+run-at : (s : Session) (l : List Request) (i : ℕ) (x : Request) → getElem? l i ≡ some x →
+    getElem? (run s l) i ≡ some (one (after s (take i l)) x)
+unfolding run after
+run-at s [] i x e = absurd (let z : _≡_ {A = ℕ} 0 1 = cc in omega arith)
+run-at s (y ∷ l) zero x e = let p : y ≡ x = cc in rw p
+run-at s (y ∷ l) (suc i) x e = run-at (one s y .0 .session) l i x e
+
+inside : {A : Type 0} (l : List A) (i : ℕ) (x : A) → getElem? l i ≡ some x → i < length l
+inside [] i x e = absurd (let z : _≡_ {A = ℕ} 0 1 = cc in omega arith)
+inside (y ∷ l) zero x e = omega arith
+inside (y ∷ l) (suc i) x e = omega (arith, inside l i x e)
+
+found : {A : Type 0} (l : List A) (i : ℕ) → i < length l → (x : A) × (getElem? l i ≡ some x)
+found [] i h = absurd (omega arith)
+found (y ∷ l) zero h = (y, refl)
+found (y ∷ l) (suc i) h = found l i (omega arith)
+
+tail : {x : Request} {l : List Request} → StepFrames (x ∷ l) → StepFrames l
+tail st = record { step = λ i x e. st .step (suc i) x e }
+
+-- ---- the bytes of an outcome
+
+-- an answer of forty bytes, written over a buffer
+module _ (x : Exchanged) (buffer : List ℕ) (l : length (answerTo x) ≡ 40) where
+  written-bytes : take 40 (written x buffer .1) ≡ answerTo x
+  unfolding written
+  written-bytes = take-at (answerTo x) (drop 40 buffer) 40 l
+
+  written-rest : drop 40 (written x buffer .1) ≡ drop 40 buffer
+  unfolding written
+  written-rest = drop-at (answerTo x) (drop 40 buffer) 40 l
+
+module _ (g : List ℕ) (G : Good g) where
+  answer-at : (k : ℕ) → answerTo (stepped (sessionAt g k)) ≡ answerAt g k
+  unfolding answerTo stepped sessionAt answerAt replyAt
+  answer-at k = rw (held g G k)
+
+  answer-long : (k : ℕ) → length (answerAt g k) ≡ 40
+  unfolding answerAt replyAt stepReply answerBytes
+  answer-long k = omega (arith, length-padded (windowAfter g k) (omega (arith, standing g G k .0, G .round .high)))
+
+  -- what an accepted step frame gets
+  stepped-answered : (k : ℕ) (buffer : List ℕ) → Answered g k buffer (written (stepped (sessionAt g k)) buffer)
+  unfolding written stepped sessionAt replyAt
+  stepped-answered k buffer =
+      let x = stepped (sessionAt g k) in
+      let l : length (answerTo x) ≡ 40 = ap length (answer-at k) ∙ answer-long k in
+      record {
+        reply = rw (held g G k);
+        bytes = written-bytes x buffer l ∙ answer-at k;
+        rest = written-rest x buffer l;
+      }
+
+-- what a refused frame gets
+refused-down : (s : Session) (cause : Cause) (buffer : List ℕ) → 40 ≤ length buffer →
+    TurnedDown cause s buffer (written (refuse s cause) buffer)
+unfolding written answerTo answerBytes
+refused-down s cause buffer h = record {
+  reply = refl;
+  session = refl;
+  short = λ l. absurd (omega arith);
+  bytes = λ l. written-bytes (refuse s cause) buffer refl;
+  rest = written-rest (refuse s cause) buffer refl;
+}
+
+short-down : (s : Session) (buffer : List ℕ) → length buffer < 40 → TurnedDown ShortBuffer s buffer (refuse s ShortBuffer, buffer)
+short-down s buffer h = record {
+  reply = refl;
+  session = refl;
+  short = λ l. refl;
+  bytes = λ l. absurd (omega arith);
+  rest = refl;
+}
+
+-- ---- one step frame at the count c
+
+module _ (g : List ℕ) (G : Good g) (c : ℕ) (le : c ≤ roundOf g) (x : Request) (kind : kindIn (x .frame) ≡ letterS) where
+  -- the outcome where the count accepts, and where it does not
+  taken : accepts (roundOf g) c (arrival x) ≡ true → one (sessionAt g c) x ≡ written (stepped (sessionAt g (numberIn (x .frame)))) (x .buffer)
+  taken t = elim (decLt (length (x .buffer)) 40) [
+    | yes l ↦ absurd (false≢true (sym (short-refused (roundOf g) c (arrival x) l .0) ∙ t))
+    | no l ↦ room (sessionAt g c) (x .frame) (x .buffer) (omega arith)
+        ∙ ap (λ y. written y (x .buffer)) (step-handled g G c le (arrival x) (omega arith) kind ∙ rw t)
+  ]
+
+  not-taken : accepts (roundOf g) c (arrival x) ≡ false →
+      TurnedDown (causeAt c (arrival x)) (sessionAt g c) (x .buffer) (one (sessionAt g c) x)
+  not-taken t = elim (decLt (length (x .buffer)) 40) [
+    | yes l ↦ rw (no-room (sessionAt g c) (x .frame) (x .buffer) l, short-refused (roundOf g) c (arrival x) l .1)
+        (short-down (sessionAt g c) (x .buffer) l)
+    | no l ↦ rw (room (sessionAt g c) (x .frame) (x .buffer) (omega arith), step-handled g G c le (arrival x) (omega arith) kind, t)
+        (refused-down (sessionAt g c) (causeAt c (arrival x)) (x .buffer) (omega arith))
+  ]
+
+  one-accepted : accepted (one (sessionAt g c) x .0 .reply) ≡ accepts (roundOf g) c (arrival x)
+  unfolding accepted written stepped stepReply
+  one-accepted = by-test (accepts (roundOf g) c (arrival x))
+      (λ t. rw (taken t, t))
+      (λ t. rw (not-taken t .reply, t))
+
+  -- The session goes on as the count does.
+  one-session : one (sessionAt g c) x .0 .session ≡ sessionAt g (counted (roundOf g) c (arrival x))
+  unfolding accepts counted written stepped
+  one-session = go (verdict (roundOf g) c (arrival x))
+    where
+      go : Verdict (roundOf g) c (arrival x) → one (sessionAt g c) x .0 .session ≡ sessionAt g (counted (roundOf g) c (arrival x))
+      go (next e n h) = rw (taken (rw e), e) (ap (sessionAt g) n)
+      go (resend e e′ n h) = rw (taken (rw (e, e′)), e) (ap (sessionAt g) n)
+      go (neither e e′) = not-taken (rw (e, e′)) .session ∙ rw e
+
+-- ---- a list of step frames
+
+module _ (g : List ℕ) (G : Good g) where
+  after-take : (l : List Request) → StepFrames l → (c : ℕ) → c ≤ roundOf g → (i : ℕ) →
+      after (sessionAt g c) (take i l) ≡ sessionAt g (countFrom (roundOf g) c (map arrival (take i l)))
+  unfolding after countFrom
+  after-take l st c le zero = refl
+  after-take [] st c le (suc i) = refl
+  after-take (x ∷ l) st c le (suc i) =
+      ap (λ s. after s (take i l)) (one-session g G c le x (st .step 0 x refl))
+      ∙ after-take l (tail st) (counted (roundOf g) c (arrival x)) (counted-le (roundOf g) c (arrival x) le) i
+
+  -- the sessions after the first acceptances are those at c + 1, …, c + m, where the count rises by m
+  firsts-from : (l : List Request) → StepFrames l → (c : ℕ) → c ≤ roundOf g → (m : ℕ) →
+      countFrom (roundOf g) c (map arrival l) ≡ c + m →
+      firsts (roundOf g) c l (run (sessionAt g c) l) ≡ map (sessionAt g) (numbersAfter c m)
+  unfolding firsts run countFrom numbersAfter
+  firsts-from [] st c le m e = let z : m ≡ 0 = omega arith in rw z
+  firsts-from (x ∷ l) st c le m e =
+      let end = roundOf g in
+      let count : ℕ → ℕ = λ k. countFrom end k (map arrival l) in
+      let goes = one-session g G c le x (st .step 0 x refl) in
+      by-test (isNext end c (arrival x))
+      (λ y.
+      let up = counted-next end c (arrival x) y in
+      rw (goes, up, y) (rises y (firsts-from l (tail st) (c + 1)) m (ap count (sym up) ∙ e)))
+      (λ y.
+      let same = counted-same end c (arrival x) y in
+      rw (goes, same, y) (firsts-from l (tail st) c le m (ap count (sym same) ∙ e)))
+    where
+      Rest : List Session
+      Rest = firsts (roundOf g) (c + 1) l (run (sessionAt g (c + 1)) l)
+
+      rises : isNext (roundOf g) c (arrival x) ≡ true →
+          (c + 1 ≤ roundOf g → (m : ℕ) → countFrom (roundOf g) (c + 1) (map arrival l) ≡ c + 1 + m →
+          Rest ≡ map (sessionAt g) (numbersAfter (c + 1) m)) →
+          (m : ℕ) → countFrom (roundOf g) (c + 1) (map arrival l) ≡ c + m → sessionAt g (c + 1) ∷ Rest ≡ map (sessionAt g) (numbersAfter c m)
+      rises y ih zero e = absurd (omega (arith, count-ge (roundOf g) (c + 1) (map arrival l)))
+      rises y ih (suc m) e =
+          let (p, (n, h)) = says-next (roundOf g) c (arrival x) .to y in
+          ap (λ r. sessionAt g (c + 1) ∷ r) (ih (omega arith) m (omega arith))
+
+-- ---- the two lists
+
+module _ (g : List ℕ) (G : Good g) (listA listB : List Request) (ordered : InOrder (roundOf g) listA) (frames : StepFrames listB) where
+  frames-A : StepFrames listA
+  frames-A = record { step = ordered .step }
+
+  count-A : (i : ℕ) → i ≤ roundOf g → countFrom (roundOf g) 0 (map arrival (take i listA)) ≡ i
+  count-A i h =
+      in-order (roundOf g) listA 0 (omega (arith, ordered .long))
+      (λ i x e. (ordered .pass i x e, omega (arith, ordered .numbered i x e))) i (omega (arith, ordered .long))
+      ∙ omega arith
+
+  on-A : (k : ℕ) → k ≤ roundOf g → after (sessionAt g 0) (take k listA) ≡ sessionAt g k
+  on-A k h = after-take g G listA frames-A 0 (omega arith) k ∙ ap (sessionAt g) (count-A k h)
+
+  came-A : (i : ℕ) (x : Request) → getElem? listA i ≡ some x →
+      getElem? (run (sessionAt g 0) listA) i ≡ some (written (stepped (sessionAt g (i + 1))) (x .buffer))
+  unfolding accepts
+  came-A i x e =
+      let h : i < roundOf g = omega (arith, inside listA i x e, ordered .long) in
+      let n = ordered .numbered i x e in
+      let t : accepts (roundOf g) i (arrival x) ≡ true = rw (next-of (roundOf g) i (arrival x) (ordered .pass i x e) n h) in
+      run-at (sessionAt g 0) listA i x e
+      ∙ ap some (ap (λ s. one s x) (on-A i (omega arith)) ∙ taken g G i (omega arith) x (ordered .step i x e) t ∙ rw n)
+
+  answers-A : (i : ℕ) (x : Request) (o : Outcome) → getElem? listA i ≡ some x → getElem? (run (sessionAt g 0) listA) i ≡ some o →
+      Answered g (i + 1) (x .buffer) o
+  answers-A i x o e e′ =
+      let q : written (stepped (sessionAt g (i + 1))) (x .buffer) ≡ o = cc (came-A i x e) in
+      subst (Answered g (i + 1) (x .buffer)) q (stepped-answered g G (i + 1) (x .buffer))
+
+  on-B : (i : ℕ) → after (sessionAt g 0) (take i listB) ≡ sessionAt g (countFrom (roundOf g) 0 (map arrival (take i listB)))
+  on-B = after-take g G listB frames 0 (omega arith)
+
+  module _ {i : ℕ} {x : Request} {c : ℕ} {o : Outcome} (p : Position g (sessionAt g 0) listB i x c o) where
+    before : after (sessionAt g 0) (take i listB) ≡ sessionAt g c
+    unfolding countOf
+    before = on-B i ∙ ap (sessionAt g) (p .count)
+
+    position : one (sessionAt g c) x ≡ o
+    position =
+        let q : one (after (sessionAt g 0) (take i listB)) x ≡ o = cc (run-at (sessionAt g 0) listB i x (p .sent)) in
+        ap (λ s. one s x) (sym before) ∙ q
+
+    within : c ≤ roundOf g
+    unfolding countOf
+    within = omega (arith, count-le (roundOf g) 0 (map arrival (take i listB)) (omega arith), p .count)
+
+    kind : kindIn (x .frame) ≡ letterS
+    kind = frames .step i x (p .sent)
+
+    accepted-B : accepted (o .0 .reply) ≡ accepts (roundOf g) c (arrival x)
+    accepted-B = rw (← position) (one-accepted g G c within x kind)
+
+    refused-B : accepts (roundOf g) c (arrival x) ≡ false →
+        TurnedDown (causeAt c (arrival x)) (after (sessionAt g 0) (take i listB)) (x .buffer) o
+    refused-B t = rw (before, ← position) (not-taken g G c within x kind t)
+
+    module _ (t : accepts (roundOf g) c (arrival x) ≡ true) where
+      answers-B : Answered g (numberIn (x .frame)) (x .buffer) o
+      answers-B = rw (← position, taken g G c within x kind t) (stepped-answered g G (numberIn (x .frame)) (x .buffer))
+
+      same-answer : SameAnswer (run (sessionAt g 0) listA) (numberIn (x .frame)) o
+      same-answer =
+          let k = numberIn (x .frame) in
+          let (low, high) = number-between (roundOf g) c (arrival x) within t in
+          let (y, e) = found listA (k - 1) (omega (arith, ordered .long)) in
+          let up : k - 1 + 1 ≡ k = omega arith in
+          let A : Answered g k (y .buffer) (written (stepped (sessionAt g (k - 1 + 1))) (y .buffer)) = rw up (stepped-answered g G k (y .buffer)) in
+          record {
+            at = k - 1;
+            numbered = sym up;
+            other = written (stepped (sessionAt g (k - 1 + 1))) (y .buffer);
+            came = came-A (k - 1) y e;
+            same = answers-B .bytes ∙ sym (A .bytes);
+          }
+
+  both : TwoBenches g (sessionAt g 0) (sessionAt g 0) listA listB
+  unfolding countOf
+  both = record {
+    long = run-long (sessionAt g 0) listB;
+    accepted-B = accepted-B;
+    answered-B = λ p t. (answers-B p t, same-answer p t);
+    answered-A = answers-A;
+    refused-B = refused-B;
+    on-B = on-B;
+    end-B = rw take-length at (on-B (length listB));
+    on-A = on-A;
+    listing = listing g G;
+    firsts-A = firsts-from g G listA frames-A 0 (omega arith) (roundOf g) (whole-A ∙ omega arith);
+    firsts-B = firsts-from g G listB frames 0 (omega arith) (countOf g (map arrival listB)) (omega arith);
+  }
+    where
+      whole-A : countFrom (roundOf g) 0 (map arrival listA) ≡ roundOf g
+      whole-A = rw take-length at (count-A (length listA) (omega (arith, ordered .long))) ∙ ordered .long
+
+begin-left : (s : Session) (g buffer : List ℕ) → kindIn g ≡ letterB → accepted (exchange s g buffer .0 .reply) ≡ true →
+    Good g → exchange s g buffer .0 .session ≡ sessionAt g 0
+begin-left s g buffer kind e G = begin-taken s g kind buffer e .0 ∙ begin-at g G
+
+-- Demand 3.
+pub two-benches : Demand3
+two-benches A₀ B₀ g bufferA bufferB listA listB kind accepted-A accepted-B ordered frames =
+    let G = good g (begin-taken A₀ g kind bufferA accepted-A .1) in
+    rw (begin-left A₀ g bufferA kind accepted-A G, begin-left B₀ g bufferB kind accepted-B G) (both g G listA listB ordered frames)

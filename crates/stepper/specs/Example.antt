@@ -1,0 +1,108 @@
+-- An instance of demand 3, and each refusal met once: n = 2, rule 1, from 1,1, top -1000, spacing 100 (document 01, "The printed round").
+use mathlib.Core.Bool.{true}
+use mathlib.Core.List.{List, [], _∷_, _++_, map}
+use mathlib.Core.Option.{some}
+use mathlib.Core.Path.{_≡_}
+use Prim.Native.Nat.{ℕ}
+use lib.IntN.{pos, negsuc}
+use lib.ListN.{take, set, replicate, getElem?}
+use Rattle.refusals.specs.declared.Cause.{Cause}
+use Rattle.refusals.specs.declared.Cause.the-variants.{ShortBuffer, FrameLength, FrameHeader, FrameKind, ReservedByte, WindowLength}
+use Rattle.refusals.specs.declared.Cause.the-variants.{RuleNumber, NotWeakOrder, LevelSetting, NotBegun, StepNumber, RoundFinished}
+use Rattle.frames.specs.declared.answer.Reply.{Reply}
+use Rattle.frames.specs.declared.answer.Reply.the-variants.{Accepted, Refused}
+use Rattle.frames.specs.Answer.{accepted, stateReply}
+use Rattle.stepper.specs.declared.Session.{Session}
+use Rattle.stepper.specs.Exchange.{fresh, Outcome, exchange}
+use Rattle.stepper.specs.TwoBenches.{roundOf, countOf, Request, arrival, run, after, firsts, TwoBenches}
+
+-- a B frame, an S frame numbered k < 256, a Q frame
+unfoldable pub beginning : List ℕ
+beginning =
+    (87 ∷ 75 ∷ 79 ∷ 49 ∷ 66 ∷ 2 ∷ 1 ∷ 0 ∷ []) ++ replicate 8 0 ++ (24 ∷ 252 ∷ 100 ∷ 0 ∷ 0 ∷ 0 ∷ 0 ∷ 0 ∷ 1 ∷ 1 ∷ []) ++ replicate 14 0
+
+unfoldable pub stepping : ℕ → List ℕ
+stepping k = (87 ∷ 75 ∷ 79 ∷ 49 ∷ 83 ∷ 0 ∷ 0 ∷ 0 ∷ k ∷ []) ++ replicate 31 0
+
+unfoldable pub asking : List ℕ
+asking = (87 ∷ 75 ∷ 79 ∷ 49 ∷ 81 ∷ []) ++ replicate 35 0
+
+-- a buffer of m sevens
+unfoldable pub lent : ℕ → List ℕ
+lent m = replicate m 7
+
+abbrev pub sent : List ℕ → ℕ → Request
+sent f m = record { frame = f; buffer = lent m }
+
+unfoldable pub listA : List Request
+listA = sent (stepping 1) 40 ∷ sent (stepping 2) 41 ∷ sent (stepping 3) 64 ∷ []
+
+unfoldable pub listB : List Request
+listB =
+    sent (stepping 1) 42 ∷ sent (stepping 1) 40 ∷ sent (stepping 2) 39 ∷ sent (stepping 3) 40 ∷ sent (stepping 2 ++ (0 ∷ [])) 40
+    ∷ sent (set (stepping 2) 2 65) 40 ∷ sent (set (stepping 2) 39 1) 40 ∷ sent (stepping 0) 40 ∷ sent (stepping 2) 40
+    ∷ sent (stepping 3) 40 ∷ sent (stepping 4) 40 ∷ sent (stepping 3) 40 ∷ []
+
+-- a session that no frame could have left
+unfoldable pub odd : Session
+odd =
+    record {
+      begun = true;
+      n = 200;
+      rule = 9;
+      setting = record { top = negsuc 32767; spacing = 0 };
+      window = replicate 16 255;
+      done = 77;
+    }
+
+-- the sessions that the begin frame leaves
+unfoldable pub leftA : Session
+leftA = exchange fresh beginning (lent 40) .0 .session
+
+unfoldable pub leftB : Session
+leftB = exchange odd beginning (lent 45) .0 .session
+
+pub record Instance : Type 0 where
+  pub round : roundOf beginning ≡ 3
+  pub accepted-A : accepted (exchange fresh beginning (lent 40) .0 .reply) ≡ true
+  pub accepted-B : accepted (exchange odd beginning (lent 45) .0 .reply) ≡ true
+  pub replies : map (λ (o : Outcome). o .0 .reply) (run leftB listB)
+      ≡ Accepted 2 (negsuc 1099) ∷ Accepted 2 (negsuc 1099) ∷ Refused ShortBuffer ∷ Refused StepNumber ∷ Refused FrameLength
+      ∷ Refused FrameHeader ∷ Refused ReservedByte ∷ Refused StepNumber ∷ Accepted 1 (negsuc 999)
+      ∷ Accepted 1 (negsuc 999) ∷ Refused RoundFinished ∷ Accepted 1 (negsuc 999) ∷ []
+  pub count : countOf beginning (map arrival listB) ≡ 3
+  pub windows : map (λ (s : Session). take 2 (s .window)) (firsts 3 0 listB (run leftB listB))
+      ≡ (1 ∷ 2 ∷ []) ∷ (2 ∷ 1 ∷ []) ∷ (1 ∷ 1 ∷ []) ∷ []
+  -- the buffers of the first, the third and the fourth frame
+  pub answer : getElem? (map (λ (o : Outcome). o .1) (run leftB listB)) 0
+      ≡ some ((87 ∷ 75 ∷ 65 ∷ 49 ∷ 0 ∷ 2 ∷ 2 ∷ 0 ∷ 1 ∷ 0 ∷ 0 ∷ 0 ∷ 0 ∷ 0 ∷ 0 ∷ 0 ∷ 180 ∷ 251 ∷ 255 ∷ 255 ∷ 0 ∷ 0 ∷ 0 ∷ 0 ∷ 1 ∷ 2 ∷ [])
+      ++ replicate 14 0 ++ (7 ∷ 7 ∷ []))
+  pub untouched : getElem? (map (λ (o : Outcome). o .1) (run leftB listB)) 2 ≡ some (replicate 39 7)
+  pub refusal : getElem? (map (λ (o : Outcome). o .1) (run leftB listB)) 3 ≡ some ((87 ∷ 75 ∷ 65 ∷ 49 ∷ 11 ∷ []) ++ replicate 35 0)
+  pub both : TwoBenches beginning leftA leftB listA listB
+
+-- the reply to a frame, by a fresh session and by the one that the begin frame leaves
+unfoldable pub replyTo : List ℕ → Reply
+replyTo f = exchange fresh f (lent 40) .0 .reply
+
+unfoldable pub replyLater : List ℕ → Reply
+replyLater f = exchange leftA f (lent 40) .0 .reply
+
+-- the begin frame with one byte changed, and what it is refused for
+abbrev pub Refuses : List (ℕ × ℕ) → Cause → Type 0
+Refuses changes cause =
+    map (λ (x : ℕ × ℕ). replyTo (set beginning (x .0) (x .1))) changes ≡ map (λ (x : ℕ × ℕ). Refused cause) changes
+
+pub record Refusals : Type 0 where
+  pub header : Refuses ((0, 0) ∷ (1, 0) ∷ (2, 65) ∷ (3, 50) ∷ []) FrameHeader
+  pub kind : Refuses ((4, 0) ∷ (4, 98) ∷ []) FrameKind
+  pub reserved : Refuses ((7, 1) ∷ (8, 1) ∷ (15, 1) ∷ (20, 1) ∷ (23, 1) ∷ []) ReservedByte
+  pub length : Refuses ((5, 0) ∷ (5, 17) ∷ (5, 255) ∷ []) WindowLength
+  pub rule : Refuses ((6, 0) ∷ (6, 4) ∷ []) RuleNumber
+  pub window : Refuses ((24, 0) ∷ (25, 3) ∷ (26, 1) ∷ (39, 1) ∷ (6, 2) ∷ []) NotWeakOrder
+  -- top -32744, 31768 and -10216; spacing 0 and 612
+  pub setting : Refuses ((17, 128) ∷ (17, 124) ∷ (17, 216) ∷ (18, 0) ∷ (19, 2) ∷ []) LevelSetting
+  pub not-begun : (replyTo (stepping 1) ≡ Refused NotBegun) × (replyTo asking ≡ Refused NotBegun)
+  pub kinds : (replyTo beginning ≡ stateReply) × (replyLater (stepping 1) ≡ Accepted 2 (negsuc 1099)) × (replyLater asking ≡ stateReply)
+  pub reserved-S : map (λ (i : ℕ). replyLater (set (stepping 1) i 1)) (5 ∷ 7 ∷ 16 ∷ 39 ∷ []) ≡ replicate 4 (Refused ReservedByte)
+  pub reserved-Q : map (λ (i : ℕ). replyLater (set asking i 1)) (5 ∷ 8 ∷ 39 ∷ []) ≡ replicate 3 (Refused ReservedByte)

@@ -1,0 +1,126 @@
+-- What a frame does to a session and to the buffer lent for its answer (document 01, "Frames" and "Turned down").
+use mathlib.Core.Bool.{Bool, true, false, cond, not, _&&_, _||_}
+use mathlib.Core.List.{List, _++_}
+use Prim.Native.Nat.{ℕ, _+_}
+use lib.Dec.{leb, ltb, eqb}
+use lib.IntN.{pos}
+use lib.ListN.{length, take, drop, replicate}
+use Rattle.weak_orders.specs.Window.{different, isLength, padded}
+use Rattle.ranking.specs.Counts.{a}
+use Rattle.successors.specs.Rules.{ruleOf, inForm, isRule, step}
+use Rattle.refusals.specs.declared.Cause.{Cause}
+use Rattle.refusals.specs.declared.Cause.the-variants.{ShortBuffer, FrameLength, FrameHeader, FrameKind, ReservedByte, WindowLength}
+use Rattle.refusals.specs.declared.Cause.the-variants.{RuleNumber, NotWeakOrder, LevelSetting, NotBegun, StepNumber, RoundFinished}
+use Rattle.frames.specs.declared.answer.Reply.{Reply}
+use Rattle.frames.specs.declared.answer.Reply.the-variants.{Refused}
+use Rattle.frames.specs.Fields.{zeros}
+use Rattle.frames.specs.Level.{settingOk}
+use Rattle.frames.specs.Question.{isQuestion, kindIn, letterB, letterS, letterQ, lengthIn, ruleIn, numberIn, settingIn, windowIn}
+use Rattle.frames.specs.Question.{reservedB, reservedS, reservedQ}
+use Rattle.frames.specs.Answer.{accepted, answerBytes, stepReply, stateReply}
+use Rattle.stepper.specs.declared.Exchanged.{Exchanged}
+use Rattle.stepper.specs.declared.Session.{Session}
+
+-- what test 8 asks of sixteen bytes: the first n are a weak order in the rule's form, and the others are zero
+unfoldable pub windowOk : ℕ → ℕ → List ℕ → Bool
+unfolding inForm zeros
+windowOk n rule w = inForm rule (take n w) && zeros (drop n w)
+
+-- the reply to a B for the round that the session holds: tests 6 to 9
+unfoldable pub beginReply : Session → Reply
+unfolding isLength isRule windowOk settingOk
+beginReply s =
+    cond (not (isLength (s .n))) (Refused WindowLength) (
+    cond (not (isRule (s .rule))) (Refused RuleNumber) (
+    cond (not (windowOk (s .n) (s .rule) (s .window))) (Refused NotWeakOrder) (
+    cond (not (settingOk (s .n) (s .setting))) (Refused LevelSetting)
+    stateReply)))
+
+-- a session that would get a B refused, or whose steps done exceed a(n), counts as not begun
+unfoldable pub hasBegun : Session → Bool
+unfolding accepted beginReply a
+hasBegun s = s .begun && (accepted (beginReply s) && leb (s .done) (a (s .n)))
+
+-- a fresh session has not begun
+unfoldable pub fresh : Session
+fresh =
+    record { begun = false; n = 0; rule = 0; setting = record { top = pos 0; spacing = 0 }; window = replicate 16 0; done = 0 }
+
+-- a refusal leaves the session
+abbrev pub refuse : Session → Cause → Exchanged
+refuse s cause = record { session = s; reply = Refused cause }
+
+-- the session that an accepted B leaves, whatever was there before
+unfoldable pub roundIn : List ℕ → Session
+unfolding settingIn windowIn
+roundIn f =
+    record { begun = true; n = lengthIn f; rule = ruleIn f; setting = settingIn f; window = windowIn f; done = 0 }
+
+-- B, from test 5 on
+unfoldable pub beginFrame : Session → List ℕ → Exchanged
+unfolding reservedB accepted beginReply roundIn
+beginFrame s f =
+    let reply = beginReply (roundIn f) in
+    cond (not (reservedB f)) (refuse s ReservedByte)
+    (record { session = cond (accepted reply) (roundIn f) s; reply = reply })
+
+-- the window stepped once, and one more step done
+unfoldable pub onward : Session → Session
+unfolding padded ruleOf step
+onward s =
+    record {
+      begun = s .begun;
+      n = s .n;
+      rule = s .rule;
+      setting = s .setting;
+      window = padded (step (ruleOf (s .rule)) (take (s .n) (s .window)));
+      done = s .done + 1;
+    }
+
+-- an accepted S left the session s: a step and its resends get the same answer
+unfoldable pub stepped : Session → Exchanged
+unfolding stepReply
+stepped s = record { session = s; reply = stepReply (s .rule) (s .setting) (take (s .n) (s .window)) }
+
+-- S numbered k, tests 10 to 12: k = done + 1 steps, k = done ≥ 1 is a resend
+unfoldable pub stepOf : Session → ℕ → Exchanged
+unfolding hasBegun a onward stepped
+stepOf s k =
+    cond (not (hasBegun s)) (refuse s NotBegun) (
+    cond (eqb k 0 || not (eqb k (s .done) || eqb k (s .done + 1))) (refuse s StepNumber) (
+    cond (eqb k (s .done + 1) && eqb (s .done) (a (s .n))) (refuse s RoundFinished) (
+    stepped (cond (eqb k (s .done + 1)) (onward s) s))))
+
+-- Q, test 10
+unfoldable pub queryOf : Session → Exchanged
+unfolding hasBegun
+queryOf s = cond (not (hasBegun s)) (refuse s NotBegun) (record { session = s; reply = stateReply })
+
+-- a frame whose answer has room: tests 2 to 4, then by kind
+unfoldable pub handle : Session → List ℕ → Exchanged
+unfolding isQuestion beginFrame reservedS numberIn stepOf reservedQ queryOf
+handle s f =
+    cond (not (eqb (length f) 40)) (refuse s FrameLength) (
+    cond (not (isQuestion f)) (refuse s FrameHeader) (
+    cond (eqb (kindIn f) letterB) (beginFrame s f) (
+    cond (eqb (kindIn f) letterS) (cond (not (reservedS f)) (refuse s ReservedByte) (stepOf s (numberIn f))) (
+    cond (eqb (kindIn f) letterQ) (cond (not (reservedQ f)) (refuse s ReservedByte) (queryOf s))
+    (refuse s FrameKind)))))
+
+-- the answer to a frame: its reply, with the steps done and the window that it left, zero filled
+unfoldable pub answerTo : Exchanged → List ℕ
+unfolding answerBytes different padded
+answerTo x =
+    let w = take (x .session .n) (x .session .window) in
+    answerBytes (x .reply) (different w) (x .session .done) (padded w)
+
+-- the session and the reply, and the whole buffer after the frame
+abbrev pub Outcome : Type 0
+Outcome = Exchanged × List ℕ
+
+-- any frame into any buffer, from test 1 on: a buffer under 40 bytes stays whole, and so do the bytes past 40
+unfoldable pub exchange : Session → List ℕ → List ℕ → Outcome
+unfolding handle answerTo
+exchange s f buffer =
+    cond (ltb (length buffer) 40) (refuse s ShortBuffer, buffer)
+    (handle s f, answerTo (handle s f) ++ drop 40 buffer)

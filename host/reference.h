@@ -1,0 +1,19 @@
+/* An independent implementation of document 01 in plain C, written from the papers, for the host tests and the benchmarks. */
+#ifndef REFERENCE_H
+#define REFERENCE_H
+#include <stdint.h>
+
+int ref_is_rank(const uint8_t *w, int n);
+int ref_is_height(const uint8_t *w, int n);
+int ref_in_form(int rule, const uint8_t *w, int n);
+void ref_heights(const uint8_t *w, int n, uint8_t *out);
+void ref_ranks(const uint8_t *w, int n, uint8_t *out);
+int ref_next_symbol(int rule, const uint8_t *w, int n);
+void ref_step(int rule, uint8_t *w, int n);
+uint64_t ref_count(int n);
+uint64_t ref_place(const uint8_t *w, int n);
+void ref_window_at(int n, uint64_t place, uint8_t *out);
+
+/* A random weak order of n in height form, with few or many ties; `next` gives 64 random bits. */
+void ref_random_heights(uint64_t (*next)(void), int n, uint8_t *out);
+#endif

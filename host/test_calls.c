@@ -1,0 +1,182 @@
+/* The direct calls against an independent implementation: done and refused, with every byte around the buffers watched. */
+#include "../include/wko.h"
+#include "reference.h"
+#include "testing.h"
+
+static uint8_t *in_page, *out_page;
+
+/* A window put where the byte behind it may not be read. */
+static const uint8_t *lend(const uint8_t *w, size_t len)
+{
+    uint8_t *p = at_end(in_page, len);
+    memcpy(p, w, len);
+    return p;
+}
+
+static uint8_t *lend_out(size_t len)
+{
+    memset(out_page, FILL, (size_t)sysconf(_SC_PAGESIZE));
+    return at_end(out_page, len);
+}
+
+typedef uint32_t conversion(uint64_t, const uint8_t *, size_t, uint8_t *, size_t);
+
+/* What document 01 says of a conversion. */
+static uint32_t expected_conversion(int to_heights, uint64_t n, const uint8_t *w, size_t len, size_t out_len, uint8_t *bytes)
+{
+    if (n < 1 || n > 16)
+        return 256 + 6;
+    if (out_len < n)
+        return 256 + 1;
+    if (len != n || !(to_heights ? ref_is_rank(w, (int)n) : ref_is_height(w, (int)n)))
+        return 256 + 8;
+    (to_heights ? ref_heights : ref_ranks)(w, (int)n, bytes);
+    return 0;
+}
+
+static void check_conversion(int to_heights, uint64_t n, const uint8_t *w, size_t len, size_t out_len)
+{
+    conversion *call = to_heights ? wko_rank_to_height : wko_height_to_rank;
+    uint8_t bytes[16] = {0};
+    uint8_t *out = lend_out(out_len);
+    uint32_t want = expected_conversion(to_heights, n, w, len, out_len, bytes);
+    uint32_t got = call(n, lend(w, len), len, out, out_len);
+    size_t written = want == 0 ? (size_t)n : 0;
+    CHECK(got == want, "conversion %d of n = %llu, length %zu: %u, not %u", to_heights, (unsigned long long)n, len, got, want);
+    CHECK(memcmp(out, bytes, written) == 0, "conversion %d of n = %llu: other symbols", to_heights, (unsigned long long)n);
+    CHECK(untouched(out_page, out, written, out_len), "conversion %d wrote beside its %zu bytes", to_heights, written);
+}
+
+/* Each string of n symbols from 0 to n + 1, both ways. */
+static void all_strings(int n)
+{
+    uint8_t w[16] = {0};
+    for (;;) {
+        int i = n - 1;
+        check_conversion(1, (uint64_t)n, w, (size_t)n, 16);
+        check_conversion(0, (uint64_t)n, w, (size_t)n, (size_t)n);
+        while (i >= 0 && w[i] == n + 1)
+            w[i--] = 0;
+        if (i < 0)
+            return;
+        w[i]++;
+    }
+}
+
+static const uint64_t lengths[] = {0, 1, 2, 8, 15, 16, 17, 18, 255, 256, 257, 4294967297u, UINT64_MAX};
+
+static void refusals_of_conversions(void)
+{
+    uint8_t w[20] = {1, 1, 1, 1, 1, 1, 1, 1, 1, 1, 1, 1, 1, 1, 1, 1, 1, 1, 1, 1};
+    for (size_t k = 0; k < sizeof lengths / sizeof *lengths; k++)
+        for (size_t len = 0; len <= 20; len++)
+            for (size_t out_len = 0; out_len <= 18; out_len++) {
+                check_conversion(1, lengths[k], w, len, out_len);
+                check_conversion(0, lengths[k], w, len, out_len);
+            }
+}
+
+/* Random weak orders of up to 16, one in three with a symbol changed. */
+static void random_conversions(long rounds)
+{
+    for (long k = 0; k < rounds; k++) {
+        int n = 1 + (int)random_below(16), damaged = random_below(3) == 0;
+        uint8_t h[16], r[16];
+        ref_random_heights(random64, n, h);
+        ref_ranks(h, n, r);
+        if (damaged) {
+            h[random_below((uint64_t)n)] = (uint8_t)random_below(k % 2 ? 20 : 256);
+            r[random_below((uint64_t)n)] = (uint8_t)random_below(k % 2 ? 20 : 256);
+        }
+        check_conversion(1, (uint64_t)n, r, (size_t)n, (size_t)n + random_below(4));
+        check_conversion(0, (uint64_t)n, h, (size_t)n, (size_t)n + random_below(4));
+    }
+}
+
+static void check_next(uint64_t n, uint64_t rule, const uint8_t *w, size_t len)
+{
+    uint32_t want, got = wko_next_symbol(n, rule, lend(w, len), len);
+    if (n < 1 || n > 16)
+        want = 256 + 6;
+    else if (rule < 1 || rule > 3)
+        want = 256 + 7;
+    else if (len != n || !ref_in_form((int)rule, w, (int)n))
+        want = 256 + 8;
+    else
+        want = (uint32_t)ref_next_symbol((int)rule, w, (int)n);
+    CHECK(got == want, "next symbol, n = %llu, rule %llu, length %zu: %u, not %u", (unsigned long long)n,
+          (unsigned long long)rule, len, got, want);
+}
+
+static void refusals_of_next_symbol(void)
+{
+    uint8_t w[20] = {0};
+    for (size_t k = 0; k < sizeof lengths / sizeof *lengths; k++)
+        for (size_t r = 0; r < sizeof lengths / sizeof *lengths; r++)
+            for (size_t len = 0; len <= 20; len++)
+                check_next(lengths[k], lengths[r], w, len);
+}
+
+static void to_ranks(uint8_t *w, int n)
+{
+    uint8_t r[16];
+    ref_ranks(w, n, r);
+    memcpy(w, r, (size_t)n);
+}
+
+/* Random weak orders under each rule, one in four with a symbol changed or of another length. */
+static void random_next_symbols(long rounds)
+{
+    for (long k = 0; k < rounds; k++) {
+        int n = 1 + (int)random_below(16), rule = 1 + (int)random_below(3);
+        size_t len = (size_t)n;
+        uint8_t w[17] = {0};
+        ref_random_heights(random64, n, w);
+        if (rule == 1)
+            to_ranks(w, n);
+        if (random_below(4) == 0)
+            w[random_below((uint64_t)n)] = (uint8_t)random_below(k % 2 ? 20 : 256);
+        if (random_below(32) == 0)
+            len += random_below(2) ? 1 : -1;
+        check_next((uint64_t)n, (uint64_t)rule, w, len);
+    }
+}
+
+/* The whole round of n under a rule, window by window, back to the start. */
+static void whole_round(int rule, int n)
+{
+    uint8_t w[16], first[16];
+    memset(w, rule == 1, sizeof w);
+    memcpy(first, w, sizeof first);
+    for (uint64_t k = 0; k < ref_count(n); k++) {
+        check_next((uint64_t)n, (uint64_t)rule, w, (size_t)n);
+        ref_step(rule, w, n);
+    }
+    CHECK(memcmp(w, first, (size_t)n) == 0, "a round of rule %d, n = %d, ends at its start", rule, n);
+}
+
+static void worked_example(void)
+{
+    const uint8_t ranks[8] = {8, 2, 5, 1, 2, 2, 7, 6}, heights[8] = {5, 1, 2, 0, 1, 1, 4, 3};
+    uint8_t out[8];
+    CHECK(wko_rank_to_height(8, ranks, 8, out, 8) == 0 && memcmp(out, heights, 8) == 0, "82512276 is 51201143 in heights");
+    CHECK(wko_height_to_rank(8, heights, 8, out, 8) == 0 && memcmp(out, ranks, 8) == 0, "51201143 is 82512276 in ranks");
+    CHECK(wko_rank_to_height(0, NULL, 0, NULL, 0) == 256 + 6, "no window at all is 6");
+}
+
+int main(void)
+{
+    in_page = guarded_page();
+    out_page = guarded_page();
+    worked_example();
+    for (int n = 1; n <= 5; n++)
+        all_strings(n);
+    refusals_of_conversions();
+    random_conversions(20000);
+    refusals_of_next_symbol();
+    for (int rule = 1; rule <= 3; rule++)
+        for (int n = 1; n <= 7; n++)
+            whole_round(rule, n);
+    random_next_symbols(1000000);
+    return report("direct calls");
+}

@@ -1,0 +1,47 @@
+/*
+ * wko.h: the tie-pattern stepper for C.
+ *
+ * Link with libwko.a (`make lib` says where it is). The library needs nothing but memory that the caller lends: it allocates
+ * nothing, keeps no state and may be called from several threads. Every call tests all of its numbers; what C cannot test stays
+ * with the caller: a pointer must point to as many bytes as its length says (it may be NULL where the length is 0), and a buffer
+ * that is written must not overlap what is read.
+ *
+ * A window is n symbols, one per byte, oldest first, n from 1 to 16. A weak order of n is a window in
+ *   rank form:   each symbol is 1 plus the number of places that hold a smaller one (1,2,2 and 1,1,3, but not 1,1,2), or
+ *   height form: the symbols present are exactly 0 to some h (0,1,1 and 2,0,1, but not 0,2,2).
+ *
+ * A call returns 0 when it is done (wko_next_symbol: the symbol), or 256 + the number of a refusal:
+ *   257 (1)   the buffer is too short
+ *   262 (6)   n is not 1 to 16
+ *   263 (7)   the rule is not 1, 2 or 3
+ *   264 (8)   the window is not n long, or no weak order of n in the form that the call takes
+ * The tests are made in the order 6, 7, 1, 8, without those that have no meaning in a call, and the first that fails decides.
+ * A refused call writes no byte.
+ */
+#ifndef WKO_H
+#define WKO_H
+
+#include <stddef.h>
+#include <stdint.h>
+
+#ifdef __cplusplus
+extern "C" {
+#endif
+
+/* The symbol that follows the window under a rule: one step drops the oldest symbol and appends this one.
+ * Rule 1 takes a window in rank form, rules 2 and 3 take one in height form. A round of a(n) such steps meets each weak order of n
+ * once. Returns the symbol, 0 to 16, or a refusal 6, 7, 8. */
+uint32_t wko_next_symbol(uint64_t n, uint64_t rule, const uint8_t *window, size_t window_len);
+
+/* From rank form to height form: the height of a place is the number of different smaller symbols in the window.
+ * Takes a window in rank form; writes n bytes to the front of out, which has out_len >= n. Refusals 6, 1, 8. */
+uint32_t wko_rank_to_height(uint64_t n, const uint8_t *window, size_t window_len, uint8_t *out, size_t out_len);
+
+/* From height form to rank form. Takes a window in height form; otherwise as above. Refusals 6, 1, 8. */
+uint32_t wko_height_to_rank(uint64_t n, const uint8_t *window, size_t window_len, uint8_t *out, size_t out_len);
+
+#ifdef __cplusplus
+}
+#endif
+
+#endif
