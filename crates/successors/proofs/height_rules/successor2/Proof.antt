@@ -29,7 +29,7 @@ low s = omega (arith, height-low (s .args .t1) (s .args .n) (array s .long) (s .
 
 -- the start, from where the first test failed, and the second
 abbrev start₂ : tie.Else2 → tie.Start
-start₂ c = c .before .before .before .before .before
+start₂ c = c .before .before .before .before
 
 abbrev start₃ : tie.Else3 → tie.Start
 start₃ c = start₂ (c .before .before)
@@ -52,7 +52,7 @@ none-above-requires c κs = search needs
 
 returns : tie.Need-returns
 returns c =
-    let s = c .before .before .before in
+    let s = c .before .before in
     let larger = sym (c .before .none-above .ensures) ∙ not-true _ (c .if1 .taken) in
     rule2-stays _ (head s) (tail s) (parts (array s))
     (inR-above (head s + 1) (head s + 1) (tail s) larger (omega arith))
@@ -63,7 +63,7 @@ in-r-requires c κs = search needs
 
 returns-2 : tie.Need-returns-2
 returns-2 c =
-    let s = c .before .before .before .before .before in
+    let s = c .before .before .before .before in
     rule2-up _ (head s) (tail s) (parts (array s)) (sym (c .before .in-r .ensures) ∙ c .if2 .taken)
 
 in-r-requires-2 : tie.Need-in-r-requires-2

@@ -13,16 +13,16 @@ use Rattle.successors.proofs.rotations.is_greatest.Statement.{statement
 use Rattle.successors.proofs.rotations.is_greatest.Tie as tie
 
 abbrev Inv-loop : tie.InvT-loop
-Inv-loop n w j₀ j = (j ≤ n) × First lexGe (take n w) 0 j
+Inv-loop w n j₀ j = (j ≤ n) × First lexGe (take n w) 0 j
 
 abbrev μ-loop : tie.MeasureT-loop
-μ-loop n w j₀ j = n - j
+μ-loop w n j₀ j = n - j
 
 -- the window
 abbrev window : tie.Start Inv-loop μ-loop → List ℕ
-window s = take (s .args .n) (s .args .t1)
+window s = take (s .args .n) (s .args .w)
 
-array : (s : tie.Start Inv-loop μ-loop) → InArray (s .args .t1) (s .args .n)
+array : (s : tie.Start Inv-loop μ-loop) → InArray (s .args .w) (s .args .n)
 array s = record { long = search needs; some = s .pre .0; most = s .pre .1 }
 
 loop-holds : tie.Need-loop-holds Inv-loop μ-loop
@@ -33,7 +33,7 @@ precedes-requires c κs = search needs
 
 returns : tie.Need-returns Inv-loop μ-loop
 returns c =
-    let p = c .before .before .before .before in
+    let p = c .before .before .before in
     let at = rotation (window (p .before)) in
     sym (greatest-no (window (p .before)) (p .loop .j) (omega (arith, size (array (p .before))))
     (is-before (at 0) (at (p .loop .j)) (c .before .precedes .ensures) (c .if1 .taken)))
@@ -46,7 +46,7 @@ loop-less c = search needs
 
 loop-again : tie.Need-loop-again Inv-loop μ-loop
 loop-again c =
-    let p = c .before .before .before .before in
+    let p = c .before .before .before in
     let u = window (p .before) in
     let at = rotation u in (
       omega arith,

@@ -15,23 +15,23 @@ use Rattle.successors.proofs.rotations.least_rotation.Statement.{statem
 use Rattle.successors.proofs.rotations.least_rotation.Tie as tie
 
 abbrev Inv-loop : tie.InvT-loop
-Inv-loop n w least₀ j₀ least j = (j ≤ n) × First lexLe (take n w) least j
+Inv-loop w n least₀ j₀ least j = (j ≤ n) × First lexLe (take n w) least j
 
 abbrev μ-loop : tie.MeasureT-loop
-μ-loop n w least₀ j₀ least j = n - j
+μ-loop w n least₀ j₀ least j = n - j
 
 -- the window
 abbrev window : tie.Start Inv-loop μ-loop → List ℕ
-window s = take (s .args .n) (s .args .t1)
+window s = take (s .args .n) (s .args .w)
 
-array : (s : tie.Start Inv-loop μ-loop) → InArray (s .args .t1) (s .args .n)
+array : (s : tie.Start Inv-loop μ-loop) → InArray (s .args .w) (s .args .n)
 array s = record { long = search needs; some = s .pre .0; most = s .pre .1 }
 
 loop-holds : tie.Need-loop-holds Inv-loop μ-loop
 loop-holds c = (search needs, first-one upward (window c))
 
 precedes-requires : tie.Need-precedes-requires Inv-loop μ-loop
-precedes-requires c κs = let s = c .before .before .loop .inv .1 in search needs
+precedes-requires c κs = let s = c .before .loop .inv .1 in search needs
 
 add-j : tie.Need-add-j Inv-loop μ-loop
 add-j c = search needs
@@ -41,7 +41,7 @@ loop-less c = search needs
 
 loop-again : tie.Need-loop-again Inv-loop μ-loop
 loop-again c =
-    let p = c .before .before .before .before in
+    let p = c .before .before .before in
     let u = window (p .before) in
     let at = rotation u in
     let m = p .loop .least in
