@@ -60,7 +60,8 @@ module _ (a x : ℕ) (b : List ℕ) (form : isHeight (a ∷ b) ≡ true) where
   pub inR-greatest : 0 < x → all (λ v. leb v x) b ≡ true → all (occurs b) (drop a (range x)) ≡ true →
       isGreatest (x ∷ b) (x ∷ b) ≡ inR (x ∷ b)
   unfolding inR
-  inR-greatest pos top full = rw (height, says-no (says-zeros (x ∷ b)) (λ z. omega (arith, z x here))) (and-true (isGreatest (x ∷ b) (x ∷ b)))
+  inR-greatest pos top full =
+      rw (height, says-no (says-zeros (x ∷ b)) (λ z. omega (arith, z x here))) (and-true (isGreatest (x ∷ b) (x ∷ b)))
     where
       below : (v : ℕ) → v < x → v ∈ b
       below v lt = elim (decLt v a) [ yes l ↦ behind a v form l | no l ↦ says-from b a x .to full v (omega arith) lt ]

@@ -72,7 +72,8 @@ in-r-requires-2 c κs = search needs
 returns-3 : tie.Need-returns-3
 returns-3 c =
     let s = start₂ (c .before .before) in
-    rule2-stays _ (head s) (tail s) (parts (array s)) (up-out (c .before .before)) (sym (c .before .in-r2 .ensures) ∙ not-true _ (c .if3 .taken))
+    rule2-stays _ (head s) (tail s) (parts (array s)) (up-out (c .before .before))
+    (sym (c .before .in-r2 .ensures) ∙ not-true _ (c .if3 .taken))
 
 sub-down : tie.Need-sub-down
 sub-down c = let s = start₃ c in inR-positive (head s) (tail s) (here-in c)
@@ -87,13 +88,15 @@ returns-4 : tie.Need-returns-4
 returns-4 c =
     let e = c .before .before in
     let s = start₃ e in
-    rule2-twice _ (head s) (tail s) (parts (array s)) (up-out (e .before .before)) (here-in e) (sym (c .before .in-r3 .ensures) ∙ c .if4 .taken)
+    rule2-twice _ (head s) (tail s) (parts (array s)) (up-out (e .before .before)) (here-in e)
+    (sym (c .before .in-r3 .ensures) ∙ c .if4 .taken)
 
 returns-5 : tie.Need-returns-5
 returns-5 c =
     let e = c .before .before in
     let s = start₃ e in
-    rule2-once _ (head s) (tail s) (parts (array s)) (up-out (e .before .before)) (here-in e) (sym (c .before .in-r3 .ensures) ∙ c .if4 .left)
+    rule2-once _ (head s) (tail s) (parts (array s)) (up-out (e .before .before)) (here-in e)
+    (sym (c .before .in-r3 .ensures) ∙ c .if4 .left)
 
 pub successor2-spec : {M : Type 1} → statement M
 successor2-spec =

@@ -78,7 +78,8 @@ in-r-requires-2 c κs = search needs
 returns-3 : tie.Need-returns-3
 returns-3 c =
     let s = start₂ (c .before .before) in
-    rule3-stays _ (head s) (tail s) (parts (array s)) (here-out (c .before .before)) (sym (c .before .in-r2 .ensures) ∙ not-true _ (c .if3 .taken))
+    rule3-stays _ (head s) (tail s) (parts (array s)) (here-out (c .before .before))
+    (sym (c .before .in-r2 .ensures) ∙ not-true _ (c .if3 .taken))
 
 in-r-requires-3 : tie.Need-in-r-requires-3
 in-r-requires-3 c κs = search needs
@@ -87,13 +88,15 @@ returns-4 : tie.Need-returns-4
 returns-4 c =
     let e = c .before .before in
     let s = start₃ e in
-    rule3-twice _ (head s) (tail s) (parts (array s)) (here-out (e .before .before)) (up-in e) (sym (c .before .in-r3 .ensures) ∙ c .if4 .taken)
+    rule3-twice _ (head s) (tail s) (parts (array s)) (here-out (e .before .before)) (up-in e)
+    (sym (c .before .in-r3 .ensures) ∙ c .if4 .taken)
 
 returns-5 : tie.Need-returns-5
 returns-5 c =
     let e = c .before .before in
     let s = start₃ e in
-    rule3-once _ (head s) (tail s) (parts (array s)) (here-out (e .before .before)) (up-in e) (sym (c .before .in-r3 .ensures) ∙ c .if4 .left)
+    rule3-once _ (head s) (tail s) (parts (array s)) (here-out (e .before .before)) (up-in e)
+    (sym (c .before .in-r3 .ensures) ∙ c .if4 .left)
 
 pub successor3-spec : {M : Type 1} → statement M
 successor3-spec =

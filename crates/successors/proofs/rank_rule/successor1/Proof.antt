@@ -62,7 +62,8 @@ chain : (c : tie.After-all-single) (p : ℕ) →
 chain c p e =
     let s = c .before .before in
     let ones = getD (c .before .counts .result) 1 0 in
-    rule1-chain (window s) (head s) (tail s) (parts (array s)) ones p (c .all-single .result) (is-plain c) (often (c .before) 1 (omega arith)) e
+    let is-ones = often (c .before) 1 (omega arith) in
+    rule1-chain (window s) (head s) (tail s) (parts (array s)) ones p (c .all-single .result) (is-plain c) is-ones e
 
 -- and from case 3 on
 rest : (c : tie.Else2) (p : ℕ) →

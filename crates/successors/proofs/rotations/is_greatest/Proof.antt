@@ -7,7 +7,8 @@ use native.Mathlib.Omega.{arith}
 use borrow.Author.Needs.{needs}
 use lib.ListN.{length, take}
 use Rattle.weak_orders.specs.Rotation.{rotation}
-use Rattle.successors.proofs.RotationSearch.{lexGe, downward, First, first-one, first-stays, greatest-yes, greatest-no, not-before, is-before}
+use Rattle.successors.proofs.RotationSearch.{lexGe, downward, First, first-one, first-stays, greatest-yes, greatest-no}
+use Rattle.successors.proofs.RotationSearch.{not-before, is-before}
 use Rattle.successors.proofs.Windows.{InArray, size}
 use Rattle.successors.proofs.rotations.is_greatest.Statement.{statement}
 use Rattle.successors.proofs.rotations.is_greatest.Tie as tie
