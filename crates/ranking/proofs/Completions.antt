@@ -133,7 +133,8 @@ by-different n p r h = count-by-value (λ s. isHeight (p ++ s)) (λ s. different
     (λ s m i. let (e, b) = of-strings r n m in omega (arith, different≤bound (p ++ s), bound-append p s))
 
 -- so with d different symbols in p: the ways for each number k of symbols from the bound of p on, with k - d missing
-pub endings-ways : (n : ℕ) (p : List ℕ) (r : ℕ) → bound p ≤ n → length p + r ≡ n → endings n p r ≡ waysFrom r (bound p - different p) (different p)
+pub endings-ways : (n : ℕ) (p : List ℕ) (r : ℕ) → bound p ≤ n → length p + r ≡ n →
+    endings n p r ≡ waysFrom r (bound p - different p) (different p)
 unfolding waysFrom
 endings-ways n p r h e =
     let b = bound p in
