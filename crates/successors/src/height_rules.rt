@@ -11,7 +11,7 @@ ghost use Rattle.successors.specs.Rules.{inR, rule2, rule3};
 
 // No symbol behind the first is larger than x.
 fn none_above(w: [u8; 16], n: usize, x: u8) -> bool
-    requires { ⌜ (n ≤ 16) ⌝ }
+    requires { ⌜ n ≤ 16 ⌝ }
     ensures { λ r. ⌜ r ≡ all (λ v. leb v x) (drop 1 (take n w)) ⌝ }
 {
     let mut i = 1;
@@ -26,7 +26,7 @@ fn none_above(w: [u8; 16], n: usize, x: u8) -> bool
 
 // The symbol v occurs behind the first.
 fn occurs_behind(w: [u8; 16], n: usize, v: u8) -> bool
-    requires { ⌜ (n ≤ 16) ⌝ }
+    requires { ⌜ n ≤ 16 ⌝ }
     ensures { λ r. ⌜ r ≡ occurs (drop 1 (take n w)) v ⌝ }
 {
     let mut i = 1;
@@ -41,7 +41,7 @@ fn occurs_behind(w: [u8; 16], n: usize, v: u8) -> bool
 
 // Every symbol from a up to x, x not included, occurs behind the first.
 fn all_behind(w: [u8; 16], n: usize, a: u8, x: u8) -> bool
-    requires { ⌜ (n ≤ 16) ⌝ }
+    requires { ⌜ n ≤ 16 ⌝ }
     ensures { λ r. ⌜ r ≡ all (occurs (drop 1 (take n w))) (drop a (range x)) ⌝ }
 {
     let mut v = a;
