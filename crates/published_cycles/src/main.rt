@@ -7,7 +7,7 @@ fn digit(symbol: u8) -> u8 {
     if symbol < 10 { b'0' + symbol } else { b'?' }
 }
 
-// The window after one step, by the calls that refuse nothing; a window in no form stays.
+// The window after one step. One that is no weak order in the rule's form stays as it is, and its line ends at once.
 fn next_window(rule: u8, w: [u8; 16], n: usize) -> [u8; 16] {
     match successors::next_symbol(rule, w, n) {
         Next::Symbol(s) => weak_orders::shift(w, n, s),

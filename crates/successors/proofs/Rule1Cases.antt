@@ -1,19 +1,17 @@
 -- The cases of rule 1, each as the tests on the window that decide it. Assumes nothing.
 use mathlib.Core.Bool.{Bool, true, false, cond, not, _&&_}
-use mathlib.Core.List.{List, [], _∷_}
+use mathlib.Core.List.{List, _∷_}
 use mathlib.Core.Logic.{_≢_}
-use mathlib.Core.Path.{_≡_, refl, sym, _∙_}
-use Prim.Native.Nat.{ℕ, suc, _+_, _-_, _≤_, _<_}
-use native.Mathlib.Omega.{arith}
+use mathlib.Core.Path.{_≡_, refl}
+use Prim.Native.Nat.{ℕ, _+_, _-_, _≤_, _<_}
 use native.Mathlib.Numerals.{add-one}
 use lib.Dec.{eqb}
-use lib.ListN.{length, take, drop, set}
-use lib.Seq.{take-take, length-take-le}
+use lib.ListN.{take, drop, set}
+use lib.Seq.{take-take}
 use borrow.Author.Tests.{lt-ltb, le-ltb, eq-eqb, ne-eqb}
 use Rattle.weak_orders.specs.Rotation.{start}
 use Rattle.weak_orders.specs.Tables.{tally}
 use Rattle.weak_orders.specs.Window.{all, num}
-use Rattle.weak_orders.proofs.Tests.{_∈_}
 use Rattle.successors.specs.ByTable.{singleBy, Low}
 use Rattle.successors.specs.Rules.{rule1, isPlain, single, before, case3, case4, largestBelow}
 use Rattle.successors.proofs.Tables.{singleBy-single, singleBy-except, all-cong}

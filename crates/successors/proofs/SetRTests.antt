@@ -1,7 +1,7 @@
 -- Membership in R by tests on the window, and rules 2 and 3 by membership in R. Assumes nothing.
-use mathlib.Core.Bool.{Bool, true, false, not, _&&_}
+use mathlib.Core.Bool.{Bool, true, false, _&&_}
 use mathlib.Core.List.{List, _∷_}
-use mathlib.Core.Path.{_≡_, refl, sym, ap, _∙_}
+use mathlib.Core.Path.{_≡_, refl, sym}
 use Prim.Native.Nat.{ℕ, zero, suc, _+_, _-_, _≤_, _<_}
 use native.Mathlib.Omega.{arith}
 use native.Mathlib.Decide.{decLt}
@@ -16,7 +16,7 @@ use Rattle.weak_orders.proofs.HeightForm.{says-height}
 use Rattle.weak_orders.proofs.Symbols.{says-occurs}
 use Rattle.weak_orders.proofs.Tests.{_∈_, here, there, split-mem, not-true→false, false→not-true, says-no, says-as, says-all}
 use Rattle.successors.specs.Rules.{inR, inR⁻, rule2, rule3}
-use Rattle.successors.proofs.SetR.{R, R-height, R-first, R-positive, says-zeros}
+use Rattle.successors.proofs.SetR.{R-height, R-first, R-positive, says-zeros}
 use Rattle.successors.proofs.Scans.{in-drop-range, of-drop-range}
 
 pub says-none-above : (x : ℕ) (b : List ℕ) → Says (all (λ v. leb v x) b) ((v : ℕ) → v ∈ b → v ≤ x)
@@ -60,7 +60,8 @@ module _ (a x : ℕ) (b : List ℕ) (form : isHeight (a ∷ b) ≡ true) where
   pub inR-greatest : 0 < x → all (λ v. leb v x) b ≡ true → all (occurs b) (drop a (range x)) ≡ true →
       isGreatest (x ∷ b) (x ∷ b) ≡ inR (x ∷ b)
   unfolding inR
-  inR-greatest pos top full = rw (height, says-no (says-zeros (x ∷ b)) (λ z. omega (arith, z x here))) (and-true (isGreatest (x ∷ b) (x ∷ b)))
+  inR-greatest pos top full =
+      rw (height, says-no (says-zeros (x ∷ b)) (λ z. omega (arith, z x here))) (and-true (isGreatest (x ∷ b) (x ∷ b)))
     where
       below : (v : ℕ) → v < x → v ∈ b
       below v lt = elim (decLt v a) [ yes l ↦ behind a v form l | no l ↦ says-from b a x .to full v (omega arith) lt ]

@@ -41,7 +41,9 @@ step-in-form rule (x ∷ b) lt h = elim (ℕ-discrete rule 1) [
   | no ne ↦
       let height : isHeight (x ∷ b) ≡ true = rw (form-height rule _ ne) at h in
       elim (ℕ-discrete rule 2) [
-        | yes e ↦ rw (form-height rule _ ne, step-same (ruleOf rule) rule2 (x ∷ b) (is-rule2 rule (x ∷ b) ne e)) (height-step moves2 x b height)
-        | no ne₂ ↦ rw (form-height rule _ ne, step-same (ruleOf rule) rule3 (x ∷ b) (is-rule3 rule (x ∷ b) ne ne₂)) (height-step moves3 x b height)
+        | yes e ↦ rw (form-height rule _ ne, step-same (ruleOf rule) rule2 (x ∷ b) (is-rule2 rule (x ∷ b) ne e))
+            (height-step moves2 x b height)
+        | no ne₂ ↦ rw (form-height rule _ ne, step-same (ruleOf rule) rule3 (x ∷ b) (is-rule3 rule (x ∷ b) ne ne₂))
+            (height-step moves3 x b height)
       ]
 ]

@@ -1,22 +1,20 @@
 -- What a table of counts says of the window that it counts. Assumes nothing.
-use mathlib.Core.Bool.{Bool, true, false, cond, not, _&&_}
+use mathlib.Core.Bool.{Bool, not, _&&_}
 use mathlib.Core.List.{List, [], _∷_}
 use mathlib.Core.Logic.{_≢_}
 use mathlib.Core.Path.{_≡_, refl, sym, ap, _∙_}
 use Prim.Native.Nat.{ℕ, zero, suc, _-_, _≤_, _<_}
 use native.Mathlib.Omega.{arith}
 use native.Mathlib.Decide.{ℕ-discrete}
-use lib.Dec.{eqb, ltb}
-use lib.ListN.{length, take, getD, set}
-use lib.Seq.{length-take-le, getD-take, getD-set-same, getD-set-other}
+use lib.Dec.{eqb}
+use lib.ListN.{length, getD, set}
+use lib.Seq.{getD-set-same, getD-set-other}
 use borrow.Author.Tests.{eq-eqb, ne-eqb}
-use Rattle.weak_orders.specs.Says.{Says}
 use Rattle.weak_orders.specs.Tables.{tally}
 use Rattle.weak_orders.specs.Window.{all, num}
-use Rattle.weak_orders.proofs.Lists.{getD-in, in-getD}
 use Rattle.weak_orders.proofs.Symbols.{num-mem}
 use Rattle.weak_orders.proofs.Tallies.{tally-length, tally-num}
-use Rattle.weak_orders.proofs.Tests.{_∈_, here, there, says-as, says-lt, says-all}
+use Rattle.weak_orders.proofs.Tests.{_∈_, here, there}
 use Rattle.successors.specs.ByTable.{singleBy, largestBy}
 use Rattle.successors.specs.Rules.{single, largestBelow}
 use Rattle.successors.proofs.Singles.{largest-above, largest-in}

@@ -1,13 +1,13 @@
 -- The three successor rules (document 01, "Windows"; 002, Algorithm 1 and section 4), and one step.
-use mathlib.Core.Bool.{Bool, true, false, cond, not, _&&_, _||_}
-use mathlib.Core.List.{List, [], _∷_, _++_}
+use mathlib.Core.Bool.{Bool, false, cond, not, _&&_, _||_}
+use mathlib.Core.List.{List, [], _∷_}
 use Prim.Native.Nat.{ℕ, zero, suc, _+_, _-_}
 use lib.Dec.{leb, ltb, eqb}
 use lib.ListN.{take, drop}
 use Rattle.weak_orders.specs.Window.{all, num, isRank, isHeight, shifted}
 use Rattle.weak_orders.specs.Rotation.{start, isGreatest}
 
--- v is 1, or occurs once in w
+-- "is 1 or occurs once in w", of document 01's cases 3 and 4
 unfoldable pub single : List ℕ → ℕ → Bool
 unfolding num
 single w v = eqb v 1 || eqb (num w v) 1
@@ -17,7 +17,7 @@ unfoldable pub isPlain : List ℕ → Bool
 unfolding all single
 isPlain w = all (single w) w
 
--- the largest symbol of w below v, and 0 where there is none
+-- document 01's p for v = w1: the largest symbol of w below v, and 0 where there is none
 unfoldable pub largestBelow : List ℕ → ℕ → ℕ
 largestBelow [] v = 0
 largestBelow (x ∷ w) v = cond (ltb x v && ltb (largestBelow w v) x) x (largestBelow w v)
@@ -26,19 +26,21 @@ largestBelow (x ∷ w) v = cond (ltb x v && ltb (largestBelow w v) x) x (largest
 unfoldable pub before : ℕ → List ℕ → List ℕ
 before t w = drop 1 (take (t - 1) w)
 
--- Cases 3 and 4 for a window x b.
+-- document 01's case 3, for the window with the first symbol x and the others b
 unfoldable pub case3 : ℕ → List ℕ → Bool
 unfolding isPlain num all single before start
 case3 x b =
     let w = x ∷ b in
     not (isPlain w) && (ltb 1 x && (ltb 1 (num w x) && all (single w) (before (start w) w)))
 
+-- document 01's case 4, with p for the largest symbol below x
 unfoldable pub case4 : ℕ → List ℕ → ℕ → Bool
 unfolding num all single before start
 case4 x b p =
     let w = x ∷ b in
     ltb 1 x && (eqb (num w x) 1 && (not (eqb p 1) && all (λ v. not (eqb v p) && single w v) (before (start (p ∷ b)) w)))
 
+-- document 01's rule 1 (002, Algorithm 1): the first case that applies
 unfoldable pub rule1 : List ℕ → ℕ
 unfolding isPlain num largestBelow case3 case4
 rule1 [] = 0
@@ -55,12 +57,13 @@ unfoldable pub inR : List ℕ → Bool
 unfolding isHeight isGreatest all
 inR w = isHeight w && (isGreatest w w && not (all (eqb 0) w))
 
--- x - 1 in R, which asks that x is not 0
+-- document 01's "w−1 is in R", for the window x b: none where x is 0
 unfoldable pub inR⁻ : ℕ → List ℕ → Bool
 unfolding inR
 inR⁻ zero b = false
 inR⁻ (suc x) b = inR (x ∷ b)
 
+-- document 01's rule 2 (002, section 4, g)
 unfoldable pub rule2 : List ℕ → ℕ
 unfolding inR inR⁻
 rule2 [] = 0
@@ -69,6 +72,7 @@ rule2 (x ∷ b) =
     cond (inR (x ∷ b) && inR⁻ x b) (x - 2) (
     cond (inR (x ∷ b)) (x - 1) x))
 
+-- document 01's rule 3 (002, section 4, g′)
 unfoldable pub rule3 : List ℕ → ℕ
 unfolding inR
 rule3 [] = 0
@@ -77,19 +81,21 @@ rule3 (x ∷ b) =
     cond (inR (suc x ∷ b) && inR (suc (suc x) ∷ b)) (suc (suc x)) (
     cond (inR (suc x ∷ b)) (suc x) x))
 
--- the rule with a number, 1 to 3; the window's form under it
+-- the rule with a number
 unfoldable pub ruleOf : ℕ → List ℕ → ℕ
 unfolding rule1 rule2 rule3
 ruleOf r w = cond (eqb r 1) (rule1 w) (cond (eqb r 2) (rule2 w) (rule3 w))
 
+-- "the rule's form" of document 01: ranks for rule 1, heights for rules 2 and 3
 unfoldable pub inForm : ℕ → List ℕ → Bool
 unfolding isRank isHeight
 inForm r w = cond (eqb r 1) (isRank w) (isHeight w)
 
+-- document 01's rules are 1, 2 and 3
 unfoldable pub isRule : ℕ → Bool
 isRule r = leb 1 r && leb r 3
 
--- one step of a rule: the oldest symbol is dropped and the rule's appended
+-- document 01's "one step": the oldest symbol is dropped and the rule's appended
 unfoldable pub step : (List ℕ → ℕ) → List ℕ → List ℕ
 unfolding shifted
 step rule w = shifted w (rule w)

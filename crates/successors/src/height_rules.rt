@@ -5,14 +5,14 @@ ghost use mathlib.Core.List.{_∷_};
 ghost use mathlib.Core.Path.{_≡_};
 ghost use Prim.Native.Nat.{_≤_};
 ghost use lib.Dec.{leb};
-ghost use lib.ListN.{length, take, drop};
+ghost use lib.ListN.{take, drop};
 ghost use Rattle.weak_orders.specs.Window.{all, range, occurs, isHeight};
 ghost use Rattle.successors.specs.Rules.{inR, rule2, rule3};
 
 // No symbol behind the first is larger than x.
-fn none_above(w: &[u8; 16], n: usize, x: u8) -> bool
-    requires { ⌜ (length (now w) ≡ 16) × (n ≤ 16) ⌝ }
-    ensures { λ r. ⌜ r ≡ all (λ v. leb v x) (drop 1 (take n (now (w .entry)))) ⌝ }
+fn none_above(w: [u8; 16], n: usize, x: u8) -> bool
+    requires { ⌜ n ≤ 16 ⌝ }
+    ensures { λ r. ⌜ r ≡ all (λ v. leb v x) (drop 1 (take n w)) ⌝ }
 {
     let mut i = 1;
     while i < n {
@@ -25,9 +25,9 @@ fn none_above(w: &[u8; 16], n: usize, x: u8) -> bool
 }
 
 // The symbol v occurs behind the first.
-fn occurs_behind(w: &[u8; 16], n: usize, v: u8) -> bool
-    requires { ⌜ (length (now w) ≡ 16) × (n ≤ 16) ⌝ }
-    ensures { λ r. ⌜ r ≡ occurs (drop 1 (take n (now (w .entry)))) v ⌝ }
+fn occurs_behind(w: [u8; 16], n: usize, v: u8) -> bool
+    requires { ⌜ n ≤ 16 ⌝ }
+    ensures { λ r. ⌜ r ≡ occurs (drop 1 (take n w)) v ⌝ }
 {
     let mut i = 1;
     while i < n {
@@ -40,9 +40,9 @@ fn occurs_behind(w: &[u8; 16], n: usize, v: u8) -> bool
 }
 
 // Every symbol from a up to x, x not included, occurs behind the first.
-fn all_behind(w: &[u8; 16], n: usize, a: u8, x: u8) -> bool
-    requires { ⌜ (length (now w) ≡ 16) × (n ≤ 16) ⌝ }
-    ensures { λ r. ⌜ r ≡ all (occurs (drop 1 (take n (now (w .entry))))) (drop a (range x)) ⌝ }
+fn all_behind(w: [u8; 16], n: usize, a: u8, x: u8) -> bool
+    requires { ⌜ n ≤ 16 ⌝ }
+    ensures { λ r. ⌜ r ≡ all (occurs (drop 1 (take n w))) (drop a (range x)) ⌝ }
 {
     let mut v = a;
     while v < x {
@@ -64,10 +64,10 @@ fn in_r(w: [u8; 16], n: usize, x: u8) -> bool
     if x == 0 {
         return false;
     }
-    if !none_above(&w, n, x) {
+    if !none_above(w, n, x) {
         return false;
     }
-    if !all_behind(&w, n, a, x) {
+    if !all_behind(w, n, a, x) {
         return false;
     }
     let mut v = w;
@@ -83,7 +83,7 @@ pub(crate) fn successor2(w: [u8; 16], n: usize) -> u8
 {
     let a = w[0];
     let up = a + 1;
-    if !none_above(&w, n, up) {
+    if !none_above(w, n, up) {
         return a;
     }
     if in_r(w, n, up) {
@@ -107,7 +107,7 @@ pub(crate) fn successor3(w: [u8; 16], n: usize) -> u8
     let a = w[0];
     let up = a + 1;
     let top = a + 2;
-    if !none_above(&w, n, up) {
+    if !none_above(w, n, up) {
         return a;
     }
     if in_r(w, n, a) {

@@ -2,14 +2,14 @@
 // compare each with the first one so far, and are proved by the same facts over an order.
 ghost use mathlib.Core.Path.{_≡_};
 ghost use Prim.Native.Nat.{_≤_, _<_};
-ghost use lib.ListN.{length, take, getD};
+ghost use lib.ListN.{take, getD};
 ghost use Rattle.weak_orders.specs.Order.{lexLt};
 ghost use Rattle.weak_orders.specs.Rotation.{rotation, start, isGreatest};
 
 // The k-th symbol of the window read cyclically from index i, both counted from 0.
-fn symbol_at(w: &[u8; 16], n: usize, i: usize, k: usize) -> u8
-    requires { ⌜ (length (now w) ≡ 16) × (n ≤ 16) × (i < n) × (k < n) ⌝ }
-    ensures { λ r. ⌜ r ≡ getD (rotation (take n (now (w .entry))) i) k 0 ⌝ }
+fn symbol_at(w: [u8; 16], n: usize, i: usize, k: usize) -> u8
+    requires { ⌜ (n ≤ 16) × (i < n) × (k < n) ⌝ }
+    ensures { λ r. ⌜ r ≡ getD (rotation (take n w) i) k 0 ⌝ }
 {
     let j = i + k;
     if j < n {
@@ -19,9 +19,9 @@ fn symbol_at(w: &[u8; 16], n: usize, i: usize, k: usize) -> u8
 }
 
 // The rotation from index i stands before the one from j.
-fn precedes(w: &[u8; 16], n: usize, i: usize, j: usize) -> bool
-    requires { ⌜ (length (now w) ≡ 16) × (n ≤ 16) × (i < n) × (j < n) ⌝ }
-    ensures { λ r. ⌜ r ≡ lexLt (rotation (take n (now (w .entry))) i) (rotation (take n (now (w .entry))) j) ⌝ }
+fn precedes(w: [u8; 16], n: usize, i: usize, j: usize) -> bool
+    requires { ⌜ (n ≤ 16) × (i < n) × (j < n) ⌝ }
+    ensures { λ r. ⌜ r ≡ lexLt (rotation (take n w) i) (rotation (take n w) j) ⌝ }
 {
     let mut k = 0;
     while k < n {
@@ -50,7 +50,7 @@ pub(crate) fn least_rotation(w: [u8; 16], n: usize) -> Rotation
     let mut least = 0;
     let mut j = 1;
     while j < n {
-        if precedes(&w, n, j, least) {
+        if precedes(w, n, j, least) {
             least = j;
         }
         j += 1;
@@ -66,7 +66,7 @@ pub(crate) fn is_greatest(w: [u8; 16], n: usize) -> bool
 {
     let mut j = 1;
     while j < n {
-        if precedes(&w, n, 0, j) {
+        if precedes(w, n, 0, j) {
             return false;
         }
         j += 1;

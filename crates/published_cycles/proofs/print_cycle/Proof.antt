@@ -1,10 +1,7 @@
 -- `print_cycle` counts down from 75, and so ends. Its output is compared, not proved.
 -- Assumes nothing.
-use Prim.Native.Nat.{_≤_, _<_, _-_}
-use native.Mathlib.Omega.{arith}
+use Prim.Native.Nat.{_≤_}
 use borrow.Author.Needs.{needs}
-use mathlib.Core.Path.{_≡_}
-use lib.ListN.{length}
 use Rattle.published_cycles.proofs.print_cycle.Statement.{statement}
 use Rattle.published_cycles.proofs.print_cycle.Tie as tie
 

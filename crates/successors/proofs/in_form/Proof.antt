@@ -1,6 +1,4 @@
 -- `in_form` is the test of the form by the rule's number. Assumes nothing.
-use mathlib.Core.Bool.{_&&_}
-use mathlib.Core.Path.{_≡_}
 use borrow.Author.Needs.{needs}
 use lib.ListN.{take}
 use Rattle.weak_orders.specs.Converted.{isRankWindow, isHeightWindow}
@@ -13,14 +11,18 @@ is-rank-requires c κs = search needs
 
 returns : tie.Need-returns
 unfolding isRankWindow isHeightWindow
-returns c = let a = c .before .before .args in rw (form-rank (a .rule) (take (a .n) (a .w)) (c .before .if1 .taken)) (c .is-rank .ensures)
+returns c =
+    let a = c .before .before .args in
+    rw (form-rank (a .rule) (take (a .n) (a .w)) (c .before .if1 .taken)) (c .is-rank .ensures)
 
 is-height-requires : tie.Need-is-height-requires
 is-height-requires c κs = search needs
 
 returns-2 : tie.Need-returns-2
 unfolding isRankWindow isHeightWindow
-returns-2 c = let a = c .before .before .args in rw (form-height (a .rule) (take (a .n) (a .w)) (c .before .if1 .left)) (c .is-height .ensures)
+returns-2 c =
+    let a = c .before .before .args in
+    rw (form-height (a .rule) (take (a .n) (a .w)) (c .before .if1 .left)) (c .is-height .ensures)
 
 pub in-form-spec : {M : Type 1} → statement M
 in-form-spec = tie.close (tie.spec is-rank-requires returns is-height-requires returns-2)

@@ -1,6 +1,5 @@
 -- `next_symbol` answers by the tests of the rule and of the form. Assumes nothing.
 use mathlib.Core.Bool.{true, _&&_}
-use mathlib.Core.List.{List}
 use mathlib.Core.Path.{_≡_, sym, _∙_}
 use borrow.Author.Needs.{needs}
 use borrow.Author.Tests.{not-true, not-false}
@@ -36,8 +35,8 @@ returns-2 c =
 
 successor-requires : tie.Need-successor-requires
 successor-requires c κs =
-    let s = c .before .before .before in
-    says-and (says-itself (isLength (s .args .n))) (says-itself (inForm (s .args .rule) (take (s .args .n) (s .args .w)))) .to (in-its-form c)
+    let a = c .before .before .before .args in
+    says-and (says-itself (isLength (a .n))) (says-itself (inForm (a .rule) (take (a .n) (a .w)))) .to (in-its-form c)
 
 returns-3 : tie.Need-returns-3
 unfolding nextSymbol

@@ -1,5 +1,5 @@
 -- `step` is one step of the rule with the number. Assumes nothing.
-use mathlib.Core.Path.{_≡_, _∙_}
+use mathlib.Core.Path.{_∙_}
 use borrow.Author.Needs.{needs}
 use Rattle.successors.specs.Rules.{step}
 use Rattle.successors.proofs.step.Statement.{statement}

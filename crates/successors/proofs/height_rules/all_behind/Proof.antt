@@ -1,10 +1,8 @@
 -- `all_behind` looks for each symbol from a up to x. The loop's invariant: the test of all of them is the test of those from v on.
 -- The measure is what is left of x. Assumes nothing.
-use denote.Ref.{now}
-use mathlib.Core.Bool.{Bool, true, false}
 use mathlib.Core.List.{List}
-use mathlib.Core.Path.{_≡_, sym, ap, _∙_}
-use Prim.Native.Nat.{ℕ, _≤_, _<_, _-_}
+use mathlib.Core.Path.{_≡_, sym, _∙_}
+use Prim.Native.Nat.{ℕ, _≤_, _-_}
 use native.Mathlib.Omega.{arith}
 use borrow.Author.Needs.{needs}
 use borrow.Author.Tests.{not-true, not-false}
@@ -23,7 +21,7 @@ abbrev μ-loop : tie.MeasureT-loop
 
 -- the symbols behind the first
 abbrev tail : tie.Start Inv-loop μ-loop → List ℕ
-tail s = drop 1 (take (s .args .n) (now (s .args .w)))
+tail s = drop 1 (take (s .args .n) (s .args .w))
 
 fits : (x : ℕ) → x ≤ length (range x)
 fits x = omega (arith, length-range x)

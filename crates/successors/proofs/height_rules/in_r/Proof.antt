@@ -2,7 +2,7 @@
 use mathlib.Core.Bool.{true}
 use mathlib.Core.List.{List, _∷_}
 use mathlib.Core.Path.{_≡_, sym, _∙_}
-use Prim.Native.Nat.{ℕ, _≤_, _<_}
+use Prim.Native.Nat.{ℕ}
 use native.Mathlib.Omega.{arith}
 use borrow.Author.Needs.{needs}
 use borrow.Author.Tests.{not-true, not-false}
@@ -37,7 +37,7 @@ none-above-requires c κs = search needs
 
 returns-2 : tie.Need-returns-2
 returns-2 c =
-    let s = c .before .before .before .before in
+    let s = c .before .before .before in
     sym (inR-above (s .args .x) (s .args .x) (tail s) (sym (c .before .none-above .ensures) ∙ not-true _ (c .if2 .taken)) (omega arith))
 
 all-behind-requires : tie.Need-all-behind-requires
@@ -45,7 +45,7 @@ all-behind-requires c κs = search needs
 
 returns-3 : tie.Need-returns-3
 returns-3 c =
-    let s = c .before .before .before .before .before .before .before in
+    let s = c .before .before .before .before .before in
     sym (inR-gap (head s) (s .args .x) (tail s) (form s) (sym (c .before .all-behind .ensures) ∙ not-true _ (c .if3 .taken)))
 
 array-write-v : tie.Need-array-write-v
@@ -56,9 +56,9 @@ is-greatest-requires c κs = search needs
 
 returns-4 : tie.Need-returns-4
 returns-4 c =
-    let s = c .before .before .before .before .before .before .before .before in
-    let ne = c .before .before .before .before .before .before .before .if1 .left in
-    let top = sym (c .before .before .before .before .before .none-above .ensures) ∙ not-false _ (c .before .before .before .before .if2 .left) in
+    let s = c .before .before .before .before .before .before in
+    let ne = c .before .before .before .before .before .if1 .left in
+    let top = sym (c .before .before .before .before .none-above .ensures) ∙ not-false _ (c .before .before .before .if2 .left) in
     let full = sym (c .before .before .all-behind .ensures) ∙ not-false _ (c .before .if3 .left) in
     c .is-greatest .ensures
     ∙ rw (with-first (array s) (s .args .x)) (inR-greatest (head s) (s .args .x) (tail s) (form s) (omega (arith, ne)) top full)

@@ -1,35 +1,37 @@
 -- `none_above` tests each symbol behind the first. The loop's invariant: the test of all of them is the test of those from i on.
 -- The measure is what is left of n. Assumes nothing.
-use denote.Ref.{now}
 use mathlib.Core.Path.{_≡_}
-use Prim.Native.Nat.{ℕ, _≤_, _<_, _-_}
+use Prim.Native.Nat.{_≤_, _-_}
 use native.Mathlib.Omega.{arith}
 use borrow.Author.Needs.{needs}
 use borrow.Author.Tests.{le-leb, lt-leb}
 use lib.Dec.{leb}
-use lib.ListN.{take, drop}
+use lib.ListN.{length, take, drop}
 use Rattle.weak_orders.specs.Window.{all}
 use Rattle.successors.proofs.Scans.{scan-passes, scan-fails, scan-ends}
 use Rattle.successors.proofs.height_rules.none_above.Statement.{statement}
 use Rattle.successors.proofs.height_rules.none_above.Tie as tie
 
 abbrev Inv-loop : tie.InvT-loop
-Inv-loop w n x i₀ i = all (λ v. leb v x) (drop 1 (take n w)) ≡ all (λ v. leb v x) (drop i (take n w))
+Inv-loop n x w i₀ i = all (λ v. leb v x) (drop 1 (take n w)) ≡ all (λ v. leb v x) (drop i (take n w))
 
 abbrev μ-loop : tie.MeasureT-loop
-μ-loop w n x i₀ i = n - i
+μ-loop n x w i₀ i = n - i
+
+fits : (s : tie.Start Inv-loop μ-loop) → s .args .n ≤ length (s .args .t1)
+fits s = let l : length (s .args .t1) ≡ 16 = search needs in omega arith
 
 loop-holds : tie.Need-loop-holds Inv-loop μ-loop
 loop-holds c = search needs
 
-element-copy-out-if1 : tie.Need-element-copy-out-if1 Inv-loop μ-loop
-element-copy-out-if1 c = search needs
+array-read-if1 : tie.Need-array-read-if1 Inv-loop μ-loop
+array-read-if1 c = search needs
 
 returns : tie.Need-returns Inv-loop μ-loop
 returns c =
-    let p = c .before .before .before in
+    let p = c .before .before in
     let a = p .before .args in
-    scan-fails (λ v. leb v (a .x)) (now (a .w)) (p .loop .i) (a .n) (search needs) (p .loop .inv) (omega arith) (lt-leb _ _ (c .if1 .taken))
+    scan-fails (λ v. leb v (a .x)) (a .t1) (p .loop .i) (a .n) (fits (p .before)) (p .loop .inv) (omega arith) (lt-leb _ _ (c .if1 .taken))
 
 add-i : tie.Need-add-i Inv-loop μ-loop
 add-i c = search needs
@@ -39,15 +41,15 @@ loop-less c = search needs
 
 loop-again : tie.Need-loop-again Inv-loop μ-loop
 loop-again c =
-    let p = c .before .before .before in
+    let p = c .before .before in
     let a = p .before .args in
-    scan-passes (λ v. leb v (a .x)) (now (a .w)) (p .loop .i) (a .n) (search needs) (p .loop .inv) (omega arith) (le-leb _ _ (c .if1 .left))
+    scan-passes (λ v. leb v (a .x)) (a .t1) (p .loop .i) (a .n) (fits (p .before)) (p .loop .inv) (omega arith) (le-leb _ _ (c .if1 .left))
 
 returns-2 : tie.Need-returns-2 Inv-loop μ-loop
 returns-2 c =
     let p = c .before in
     let a = p .before .args in
-    scan-ends (λ v. leb v (a .x)) (now (a .w)) (p .loop .i) (a .n) (search needs) (p .loop .inv) (omega arith)
+    scan-ends (λ v. leb v (a .x)) (a .t1) (p .loop .i) (a .n) (fits (p .before)) (p .loop .inv) (omega arith)
 
 pub none-above-spec : {M : Type 1} → statement M
 none-above-spec =
@@ -56,7 +58,7 @@ none-above-spec =
     Inv-loop
     μ-loop
     loop-holds
-    element-copy-out-if1
+    array-read-if1
     returns
     add-i
     loop-less

@@ -1,33 +1,35 @@
 -- `occurs_behind` looks for v behind the first symbol. The loop's invariant: v occurs there just where it occurs from index i on.
 -- The measure is what is left of n. Assumes nothing.
-use denote.Ref.{now}
 use mathlib.Core.Path.{_≡_}
-use Prim.Native.Nat.{ℕ, _≤_, _<_, _-_}
+use Prim.Native.Nat.{_≤_, _-_}
 use native.Mathlib.Omega.{arith}
 use borrow.Author.Needs.{needs}
-use lib.ListN.{take, drop}
+use lib.ListN.{length, take, drop}
 use Rattle.weak_orders.specs.Window.{occurs}
 use Rattle.successors.proofs.Scans.{seek-on, seek-found, seek-ends}
 use Rattle.successors.proofs.height_rules.occurs_behind.Statement.{statement}
 use Rattle.successors.proofs.height_rules.occurs_behind.Tie as tie
 
 abbrev Inv-loop : tie.InvT-loop
-Inv-loop w n v i₀ i = occurs (drop 1 (take n w)) v ≡ occurs (drop i (take n w)) v
+Inv-loop n v w i₀ i = occurs (drop 1 (take n w)) v ≡ occurs (drop i (take n w)) v
 
 abbrev μ-loop : tie.MeasureT-loop
-μ-loop w n v i₀ i = n - i
+μ-loop n v w i₀ i = n - i
+
+fits : (s : tie.Start Inv-loop μ-loop) → s .args .n ≤ length (s .args .t1)
+fits s = let l : length (s .args .t1) ≡ 16 = search needs in omega arith
 
 loop-holds : tie.Need-loop-holds Inv-loop μ-loop
 loop-holds c = search needs
 
-element-copy-out-if1 : tie.Need-element-copy-out-if1 Inv-loop μ-loop
-element-copy-out-if1 c = search needs
+array-read-if1 : tie.Need-array-read-if1 Inv-loop μ-loop
+array-read-if1 c = search needs
 
 returns : tie.Need-returns Inv-loop μ-loop
 returns c =
-    let p = c .before .before .before in
+    let p = c .before .before in
     let a = p .before .args in
-    seek-found (a .v) (now (a .w)) (p .loop .i) (a .n) (search needs) (p .loop .inv) (omega arith) (c .if1 .taken)
+    seek-found (a .v) (a .t1) (p .loop .i) (a .n) (fits (p .before)) (p .loop .inv) (omega arith) (c .if1 .taken)
 
 add-i : tie.Need-add-i Inv-loop μ-loop
 add-i c = search needs
@@ -37,15 +39,15 @@ loop-less c = search needs
 
 loop-again : tie.Need-loop-again Inv-loop μ-loop
 loop-again c =
-    let p = c .before .before .before in
+    let p = c .before .before in
     let a = p .before .args in
-    seek-on (a .v) (now (a .w)) (p .loop .i) (a .n) (search needs) (p .loop .inv) (omega arith) (c .if1 .left)
+    seek-on (a .v) (a .t1) (p .loop .i) (a .n) (fits (p .before)) (p .loop .inv) (omega arith) (c .if1 .left)
 
 returns-2 : tie.Need-returns-2 Inv-loop μ-loop
 returns-2 c =
     let p = c .before in
     let a = p .before .args in
-    seek-ends (a .v) (now (a .w)) (p .loop .i) (a .n) (search needs) (p .loop .inv) (omega arith)
+    seek-ends (a .v) (a .t1) (p .loop .i) (a .n) (fits (p .before)) (p .loop .inv) (omega arith)
 
 pub occurs-behind-spec : {M : Type 1} → statement M
 occurs-behind-spec =
@@ -54,7 +56,7 @@ occurs-behind-spec =
     Inv-loop
     μ-loop
     loop-holds
-    element-copy-out-if1
+    array-read-if1
     returns
     add-i
     loop-less

@@ -2,7 +2,7 @@
 use mathlib.Core.Bool.{true, false}
 use mathlib.Core.List.{List, _∷_}
 use mathlib.Core.Path.{_≡_, sym, _∙_}
-use Prim.Native.Nat.{ℕ, _+_, _-_, _≤_, _<_}
+use Prim.Native.Nat.{ℕ, _+_, _-_, _≤_}
 use native.Mathlib.Omega.{arith}
 use borrow.Author.Needs.{needs}
 use borrow.Author.Tests.{not-true, not-false}
@@ -27,11 +27,18 @@ array s = record { long = search needs; some = s .pre .0; most = s .pre .1 }
 low : (s : tie.Start) → head s ≤ 15
 low s = omega (arith, height-low (s .args .t1) (s .args .n) (array s .long) (s .pre .1) (s .pre .2) (head s) (first-in (array s)))
 
+-- the start, from where the first test failed, and the second
+abbrev start₂ : tie.Else2 → tie.Start
+start₂ c = c .before .before .before .before
+
+abbrev start₃ : tie.Else3 → tie.Start
+start₃ c = start₂ (c .before .before)
+
 -- what the tests of membership in R have shown
-up-out : (c : tie.Else2) → let s = c .before .before .before .before .before in inR ((head s + 1) ∷ tail s) ≡ false
+up-out : (c : tie.Else2) → let s = start₂ c in inR ((head s + 1) ∷ tail s) ≡ false
 up-out c = sym (c .before .in-r .ensures) ∙ c .if2 .left
 
-here-in : (c : tie.Else3) → let s = c .before .before .before .before .before .before .before in inR (head s ∷ tail s) ≡ true
+here-in : (c : tie.Else3) → let s = start₃ c in inR (head s ∷ tail s) ≡ true
 here-in c = sym (c .before .in-r2 .ensures) ∙ not-false _ (c .if3 .left)
 
 array-read-a : tie.Need-array-read-a
@@ -45,7 +52,7 @@ none-above-requires c κs = search needs
 
 returns : tie.Need-returns
 returns c =
-    let s = c .before .before .before in
+    let s = c .before .before in
     let larger = sym (c .before .none-above .ensures) ∙ not-true _ (c .if1 .taken) in
     rule2-stays _ (head s) (tail s) (parts (array s))
     (inR-above (head s + 1) (head s + 1) (tail s) larger (omega arith))
@@ -56,7 +63,7 @@ in-r-requires c κs = search needs
 
 returns-2 : tie.Need-returns-2
 returns-2 c =
-    let s = c .before .before .before .before .before in
+    let s = c .before .before .before .before in
     rule2-up _ (head s) (tail s) (parts (array s)) (sym (c .before .in-r .ensures) ∙ c .if2 .taken)
 
 in-r-requires-2 : tie.Need-in-r-requires-2
@@ -64,27 +71,32 @@ in-r-requires-2 c κs = search needs
 
 returns-3 : tie.Need-returns-3
 returns-3 c =
-    let s = c .before .before .before .before .before .before .before in
-    rule2-stays _ (head s) (tail s) (parts (array s)) (up-out (c .before .before)) (sym (c .before .in-r2 .ensures) ∙ not-true _ (c .if3 .taken))
+    let s = start₂ (c .before .before) in
+    rule2-stays _ (head s) (tail s) (parts (array s)) (up-out (c .before .before))
+    (sym (c .before .in-r2 .ensures) ∙ not-true _ (c .if3 .taken))
 
 sub-down : tie.Need-sub-down
-sub-down c = let s = c .before .before .before .before .before .before .before in inR-positive (head s) (tail s) (here-in c)
+sub-down c = let s = start₃ c in inR-positive (head s) (tail s) (here-in c)
 
 in-r-requires-3 : tie.Need-in-r-requires-3
 in-r-requires-3 c κs = search needs
 
 sub-result : tie.Need-sub-result
-sub-result c = let s = c .before .before .before .before .before .before .before .before .before in inR-positive (head s - 1) (tail s) (sym (c .before .in-r3 .ensures) ∙ c .if4 .taken)
+sub-result c = let s = start₃ (c .before .before) in inR-positive (head s - 1) (tail s) (sym (c .before .in-r3 .ensures) ∙ c .if4 .taken)
 
 returns-4 : tie.Need-returns-4
 returns-4 c =
-    let s = c .before .before .before .before .before .before .before .before .before in
-    rule2-twice _ (head s) (tail s) (parts (array s)) (up-out (c .before .before .before .before)) (here-in (c .before .before)) (sym (c .before .in-r3 .ensures) ∙ c .if4 .taken)
+    let e = c .before .before in
+    let s = start₃ e in
+    rule2-twice _ (head s) (tail s) (parts (array s)) (up-out (e .before .before)) (here-in e)
+    (sym (c .before .in-r3 .ensures) ∙ c .if4 .taken)
 
 returns-5 : tie.Need-returns-5
 returns-5 c =
-    let s = c .before .before .before .before .before .before .before .before .before in
-    rule2-once _ (head s) (tail s) (parts (array s)) (up-out (c .before .before .before .before)) (here-in (c .before .before)) (sym (c .before .in-r3 .ensures) ∙ c .if4 .left)
+    let e = c .before .before in
+    let s = start₃ e in
+    rule2-once _ (head s) (tail s) (parts (array s)) (up-out (e .before .before)) (here-in e)
+    (sym (c .before .in-r3 .ensures) ∙ c .if4 .left)
 
 pub successor2-spec : {M : Type 1} → statement M
 successor2-spec =

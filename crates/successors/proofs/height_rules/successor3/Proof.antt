@@ -2,7 +2,7 @@
 use mathlib.Core.Bool.{true, false}
 use mathlib.Core.List.{List, _∷_}
 use mathlib.Core.Path.{_≡_, sym, _∙_}
-use Prim.Native.Nat.{ℕ, _+_, _-_, _≤_, _<_}
+use Prim.Native.Nat.{ℕ, _+_, _≤_}
 use native.Mathlib.Omega.{arith}
 use borrow.Author.Needs.{needs}
 use borrow.Author.Tests.{not-true, not-false}
@@ -27,11 +27,18 @@ array s = record { long = search needs; some = s .pre .0; most = s .pre .1 }
 low : (s : tie.Start) → head s ≤ 15
 low s = omega (arith, height-low (s .args .t1) (s .args .n) (array s .long) (s .pre .1) (s .pre .2) (head s) (first-in (array s)))
 
+-- the start, from where the first test failed, and the second
+abbrev start₂ : tie.Else2 → tie.Start
+start₂ c = c .before .before .before .before
+
+abbrev start₃ : tie.Else3 → tie.Start
+start₃ c = start₂ (c .before .before)
+
 -- what the tests of membership in R have shown
-here-out : (c : tie.Else2) → let s = c .before .before .before .before .before in inR (head s ∷ tail s) ≡ false
+here-out : (c : tie.Else2) → let s = start₂ c in inR (head s ∷ tail s) ≡ false
 here-out c = sym (c .before .in-r .ensures) ∙ c .if2 .left
 
-up-in : (c : tie.Else3) → let s = c .before .before .before .before .before .before .before in inR ((head s + 1) ∷ tail s) ≡ true
+up-in : (c : tie.Else3) → let s = start₃ c in inR ((head s + 1) ∷ tail s) ≡ true
 up-in c = sym (c .before .in-r2 .ensures) ∙ not-false _ (c .if3 .left)
 
 array-read-a : tie.Need-array-read-a
@@ -48,7 +55,7 @@ none-above-requires c κs = search needs
 
 returns : tie.Need-returns
 returns c =
-    let s = c .before .before .before in
+    let s = c .before .before in
     let larger = sym (c .before .none-above .ensures) ∙ not-true _ (c .if1 .taken) in
     rule3-stays _ (head s) (tail s) (parts (array s))
     (inR-above (head s) (head s + 1) (tail s) larger (omega arith))
@@ -58,11 +65,11 @@ in-r-requires : tie.Need-in-r-requires
 in-r-requires c κs = search needs
 
 sub-result : tie.Need-sub-result
-sub-result c = let s = c .before .before .before .before .before in inR-positive (head s) (tail s) (sym (c .before .in-r .ensures) ∙ c .if2 .taken)
+sub-result c = let s = c .before .before .before .before in inR-positive (head s) (tail s) (sym (c .before .in-r .ensures) ∙ c .if2 .taken)
 
 returns-2 : tie.Need-returns-2
 returns-2 c =
-    let s = c .before .before .before .before .before in
+    let s = c .before .before .before .before in
     rule3-down _ (head s) (tail s) (parts (array s)) (sym (c .before .in-r .ensures) ∙ c .if2 .taken)
 
 in-r-requires-2 : tie.Need-in-r-requires-2
@@ -70,21 +77,26 @@ in-r-requires-2 c κs = search needs
 
 returns-3 : tie.Need-returns-3
 returns-3 c =
-    let s = c .before .before .before .before .before .before .before in
-    rule3-stays _ (head s) (tail s) (parts (array s)) (here-out (c .before .before)) (sym (c .before .in-r2 .ensures) ∙ not-true _ (c .if3 .taken))
+    let s = start₂ (c .before .before) in
+    rule3-stays _ (head s) (tail s) (parts (array s)) (here-out (c .before .before))
+    (sym (c .before .in-r2 .ensures) ∙ not-true _ (c .if3 .taken))
 
 in-r-requires-3 : tie.Need-in-r-requires-3
 in-r-requires-3 c κs = search needs
 
 returns-4 : tie.Need-returns-4
 returns-4 c =
-    let s = c .before .before .before .before .before .before .before .before .before in
-    rule3-twice _ (head s) (tail s) (parts (array s)) (here-out (c .before .before .before .before)) (up-in (c .before .before)) (sym (c .before .in-r3 .ensures) ∙ c .if4 .taken)
+    let e = c .before .before in
+    let s = start₃ e in
+    rule3-twice _ (head s) (tail s) (parts (array s)) (here-out (e .before .before)) (up-in e)
+    (sym (c .before .in-r3 .ensures) ∙ c .if4 .taken)
 
 returns-5 : tie.Need-returns-5
 returns-5 c =
-    let s = c .before .before .before .before .before .before .before .before .before in
-    rule3-once _ (head s) (tail s) (parts (array s)) (here-out (c .before .before .before .before)) (up-in (c .before .before)) (sym (c .before .in-r3 .ensures) ∙ c .if4 .left)
+    let e = c .before .before in
+    let s = start₃ e in
+    rule3-once _ (head s) (tail s) (parts (array s)) (here-out (e .before .before)) (up-in e)
+    (sym (c .before .in-r3 .ensures) ∙ c .if4 .left)
 
 pub successor3-spec : {M : Type 1} → statement M
 successor3-spec =

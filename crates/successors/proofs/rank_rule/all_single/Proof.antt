@@ -1,11 +1,10 @@
 -- `all_single` tests each symbol from a up to b. The loop's invariant: the test of all of them is the test of those from i on.
 -- The measure is what is left of b. Assumes nothing.
 use mathlib.Core.Path.{_≡_}
-use Prim.Native.Nat.{ℕ, _≤_, _<_, _-_}
+use Prim.Native.Nat.{_≤_, _-_}
 use native.Mathlib.Omega.{arith}
 use borrow.Author.Needs.{needs}
 use borrow.Author.Tests.{not-true, not-false}
-use lib.Dec.{eqb}
 use lib.ListN.{length, take, drop, getD}
 use mir.Val.{Fits}
 use mir.Syntax.{w8}

@@ -1,10 +1,10 @@
 -- `is_case3` is case 3 of rule 1: each return is one of its conditions. Assumes nothing.
-use mathlib.Core.List.{List, _∷_}
-use mathlib.Core.Path.{_≡_, sym, ap, _∙_}
-use Prim.Native.Nat.{ℕ, _-_, _≤_, _<_}
+use mathlib.Core.List.{List}
+use mathlib.Core.Path.{_≡_, sym, _∙_}
+use Prim.Native.Nat.{ℕ, _-_, _≤_}
 use native.Mathlib.Omega.{arith}
 use borrow.Author.Needs.{needs}
-use lib.ListN.{length, take, drop, getD}
+use lib.ListN.{take, drop, getD}
 use Rattle.weak_orders.specs.Rotation.{start}
 use Rattle.weak_orders.specs.Window.{num}
 use Rattle.successors.proofs.Rule1Cases.{case3-plain, case3-low, case3-once, case3-clear, case3-scan}

@@ -1,7 +1,7 @@
 -- `is_case4` is case 4 of rule 1: each return is one of its conditions. Assumes nothing.
 use mathlib.Core.List.{List, _∷_}
 use mathlib.Core.Path.{_≡_, sym, ap, _∙_}
-use Prim.Native.Nat.{ℕ, _-_, _≤_, _<_}
+use Prim.Native.Nat.{ℕ, _-_, _≤_}
 use native.Mathlib.Omega.{arith}
 use borrow.Author.Needs.{needs}
 use lib.ListN.{length, take, drop, getD}
@@ -34,7 +34,9 @@ often : (s : tie.Start) → getD (s .args .t3) (head s) 0 ≡ num (window s) (he
 often s = table-num (s .args .t3) (window s) (s .pre .3) (head s) (low s)
 
 -- the search goes through the rotations of the window with p first
-starts : (c : tie.After-least-rotation) → let s = c .before .before .before .before in c .least-rotation .result .start ≡ start (s .args .p ∷ tail s)
+starts : (c : tie.After-least-rotation) →
+    let s = c .before .before .before .before in
+    c .least-rotation .result .start ≡ start (s .args .p ∷ tail s)
 starts c = let s = c .before .before .before .before in c .least-rotation .ensures ∙ ap start (with-first (array s) (s .args .p))
 
 bounds : (c : tie.After-least-rotation) →

@@ -1,7 +1,7 @@
 -- `largest_below` goes down from v. The loop's invariant: the largest below v is the largest below p. The measure is p.
 -- Assumes nothing.
 use mathlib.Core.Path.{_≡_, sym, _∙_}
-use Prim.Native.Nat.{ℕ, _≤_, _<_, _-_}
+use Prim.Native.Nat.{_≤_}
 use native.Mathlib.Omega.{arith}
 use borrow.Author.Needs.{needs}
 use Rattle.successors.specs.ByTable.{largestBy}

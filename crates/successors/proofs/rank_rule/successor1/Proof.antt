@@ -1,8 +1,8 @@
 -- `successor1` is rule 1: each return is the case of the definition that applies. Assumes nothing.
-use mathlib.Core.Bool.{false, cond, _&&_}
+use mathlib.Core.Bool.{cond, _&&_}
 use mathlib.Core.List.{List}
 use mathlib.Core.Path.{_≡_, refl, sym, _∙_}
-use Prim.Native.Nat.{ℕ, _+_, _-_, _≤_, _<_}
+use Prim.Native.Nat.{ℕ, _+_, _-_, _≤_}
 use native.Mathlib.Omega.{arith}
 use borrow.Author.Needs.{needs}
 use lib.Dec.{eqb}
@@ -62,10 +62,15 @@ chain : (c : tie.After-all-single) (p : ℕ) →
 chain c p e =
     let s = c .before .before in
     let ones = getD (c .before .counts .result) 1 0 in
-    rule1-chain (window s) (head s) (tail s) (parts (array s)) ones p (c .all-single .result) (is-plain c) (often (c .before) 1 (omega arith)) e
+    let is-ones = often (c .before) 1 (omega arith) in
+    rule1-chain (window s) (head s) (tail s) (parts (array s)) ones p (c .all-single .result) (is-plain c) is-ones e
 
-not-case3 : (c : tie.Else3) → let s = c .before .before .before .before .before .before in case3 (head s) (tail s) ≡ false
-not-case3 c = sym (c .before .is-case3 .ensures) ∙ c .if3 .left
+-- and from case 3 on
+rest : (c : tie.Else2) (p : ℕ) →
+    let s = c .before .before .before .before in
+    p ≡ largestBelow (window s) (head s) →
+    rule1 (window s) ≡ cond (case3 (head s) (tail s)) (head s + num (window s) (head s) - 1) (cond (case4 (head s) (tail s) p) p (head s))
+rest c p e = chain (c .before .before) p e ∙ rw (c .before .if1 .left, c .if2 .left)
 
 is-largest : (c : tie.After-largest-below) →
     let s = c .before .before .before .before .before .before .before in
@@ -74,6 +79,15 @@ is-largest c =
     let p = c .before .before .before .before .before .before in
     let s = p .before in
     c .largest-below .ensures ∙ largestBy-largest (p .counts .result) (window s) (p .counts .ensures) (head s) (omega (arith, head-low s))
+
+-- and from case 4 on
+last : (c : tie.After-largest-below) →
+    let s = c .before .before .before .before .before .before .before in
+    let p = c .largest-below .result in
+    rule1 (window s) ≡ cond (case4 (head s) (tail s) p) p (head s)
+last c =
+    let not-case3 = sym (c .before .before .is-case3 .ensures) ∙ c .before .if3 .left in
+    rest (c .before .before .before) (c .largest-below .result) (is-largest c) ∙ rw not-case3
 
 largest-low : (c : tie.After-largest-below) → c .largest-below .result ≤ 16
 largest-low c =
@@ -129,7 +143,7 @@ returns-3 c =
     let p = c .before .before .before .before in
     let s = p .before .before in
     let taken = sym (c .before .is-case3 .ensures) ∙ c .if3 .taken in
-    sym (chain p _ refl ∙ rw (c .before .before .before .if1 .left, c .before .before .if2 .left, taken, often (p .before) (head s) (head-low s)))
+    sym (rest (c .before .before) _ refl ∙ rw (taken, often (p .before) (head s) (head-low s)))
 
 cast-largest-below : tie.Need-cast-largest-below
 cast-largest-below c = search needs
@@ -150,15 +164,13 @@ returns-4 : tie.Need-returns-4
 returns-4 c =
     let q = c .before .before in
     let taken = sym (c .before .is-case4 .ensures) ∙ c .if4 .taken in
-    sym (chain (c .before .before .before .before .before .before .before) (q .largest-below .result) (is-largest q)
-    ∙ rw (c .before .before .before .before .before .before .if1 .left, c .before .before .before .before .before .if2 .left, not-case3 (q .before), taken))
+    sym (last q ∙ rw taken)
 
 returns-5 : tie.Need-returns-5
 returns-5 c =
     let q = c .before .before in
     let left = sym (c .before .is-case4 .ensures) ∙ c .if4 .left in
-    sym (chain (c .before .before .before .before .before .before .before) (q .largest-below .result) (is-largest q)
-    ∙ rw (c .before .before .before .before .before .before .if1 .left, c .before .before .before .before .before .if2 .left, not-case3 (q .before), left))
+    sym (last q ∙ rw left)
 
 pub successor1-spec : {M : Type 1} → statement M
 successor1-spec =

@@ -1,9 +1,8 @@
 -- `precedes` compares the two rotations. The loop's invariant: what is left of them from index k compares as they do. The measure is
 -- what is left of n. Assumes nothing.
-use denote.Ref.{now}
 use mathlib.Core.List.{List}
-use mathlib.Core.Path.{_≡_, _∙_, sym}
-use Prim.Native.Nat.{ℕ, _≤_, _<_, _-_}
+use mathlib.Core.Path.{_≡_}
+use Prim.Native.Nat.{ℕ, _≤_, _-_}
 use native.Mathlib.Omega.{arith}
 use borrow.Author.Needs.{needs}
 use lib.ListN.{length, take, drop}
@@ -23,16 +22,20 @@ abbrev μ-loop : tie.MeasureT-loop
 
 -- the two rotations
 abbrev from-i : tie.Start Inv-loop μ-loop → List ℕ
-from-i s = rotation (take (s .args .n) (now (s .args .w))) (s .args .i)
+from-i s = rotation (take (s .args .n) (s .args .w)) (s .args .i)
 
 abbrev from-j : tie.Start Inv-loop μ-loop → List ℕ
-from-j s = rotation (take (s .args .n) (now (s .args .w))) (s .args .j)
+from-j s = rotation (take (s .args .n) (s .args .w)) (s .args .j)
 
 long-i : (s : tie.Start Inv-loop μ-loop) → length (from-i s) ≡ s .args .n
-long-i s = rotation-length (now (s .args .w)) (s .args .n) (s .args .i) (search needs) (search needs)
+long-i s =
+    let l : length (s .args .w) ≡ 16 = search needs in
+    rotation-length (s .args .w) (s .args .n) (s .args .i) (search needs) (search needs)
 
 long-j : (s : tie.Start Inv-loop μ-loop) → length (from-j s) ≡ s .args .n
-long-j s = rotation-length (now (s .args .w)) (s .args .n) (s .args .j) (search needs) (search needs)
+long-j s =
+    let l : length (s .args .w) ≡ 16 = search needs in
+    rotation-length (s .args .w) (s .args .n) (s .args .j) (search needs) (search needs)
 
 front : (c : tie.After-symbol-at2 Inv-loop μ-loop) →
     let p = c .before .before .before in
