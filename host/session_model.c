@@ -1,0 +1,134 @@
+/* Document 01, "Frames" and "Turned down", in plain C. */
+#include "session_model.h"
+#include "reference.h"
+#include <string.h>
+
+static int all_zero(const uint8_t *p, int from, int to)
+{
+    for (int i = from; i <= to; i++)
+        if (p[i] != 0)
+            return 0;
+    return 1;
+}
+
+static uint64_t little_endian(const uint8_t *p, int bytes)
+{
+    uint64_t x = 0;
+    for (int i = bytes - 1; i >= 0; i--)
+        x = x << 8 | p[i];
+    return x;
+}
+
+/* Tests 6 to 9 of a round: 0, or the number of the first that fails. */
+static int round_refusal(uint64_t n, int rule, long top, long spacing, const uint8_t *window)
+{
+    if (n < 1 || n > 16)
+        return 6;
+    if (rule < 1 || rule > 3)
+        return 7;
+    if (!ref_in_form(rule, window, (int)n) || !all_zero(window, (int)n, 15))
+        return 8;
+    if (top < -10000 || top > 2000 || spacing < 1 || spacing > 500 || top - ((long)n - 1) * spacing < -12000)
+        return 9;
+    return 0;
+}
+
+int model_has_begun(const struct wko_session *s)
+{
+    return s->begun && round_refusal(s->n, s->rule, s->setting.top, s->setting.spacing, s->window) == 0
+           && s->done <= ref_count((int)s->n);
+}
+
+static void write_answer(const struct wko_session *s, int with_symbol, uint8_t *answer)
+{
+    int different = 0, n = (int)s->n, symbol = s->window[n - 1];
+    long level = s->setting.top - (long)(s->rule == 1 ? symbol - 1 : symbol) * s->setting.spacing;
+    for (int v = 0; v < 256; v++)
+        different += memchr(s->window, v, (size_t)n) != NULL;
+    memcpy(answer, "WKA1", 4);
+    answer[4] = 0;
+    answer[5] = (uint8_t)(with_symbol ? symbol : 0);
+    answer[6] = (uint8_t)different;
+    answer[7] = 0;
+    for (int i = 0; i < 8; i++)
+        answer[8 + i] = (uint8_t)(s->done >> (8 * i));
+    for (int i = 0; i < 4; i++)
+        answer[16 + i] = (uint8_t)(with_symbol ? (uint32_t)(int32_t)level >> (8 * i) : 0);
+    memset(answer + 20, 0, 4);
+    memcpy(answer + 24, s->window, 16);
+}
+
+static int begin(struct wko_session *s, const uint8_t *f, uint8_t *answer)
+{
+    struct wko_session next;
+    int refusal;
+    if (!all_zero(f, 7, 15) || !all_zero(f, 20, 23))
+        return 5;
+    memset(&next, 0, sizeof next);
+    next.begun = true;
+    next.n = f[5];
+    next.rule = f[6];
+    next.setting.top = (int16_t)(uint16_t)little_endian(f + 16, 2);
+    next.setting.spacing = (uint16_t)little_endian(f + 18, 2);
+    memcpy(next.window, f + 24, 16);
+    refusal = round_refusal(next.n, next.rule, next.setting.top, next.setting.spacing, next.window);
+    if (refusal != 0)
+        return refusal;
+    *s = next;
+    write_answer(s, 0, answer);
+    return 0;
+}
+
+static int step(struct wko_session *s, const uint8_t *f, uint8_t *answer)
+{
+    uint64_t number = little_endian(f + 8, 8);
+    if (!all_zero(f, 5, 7) || !all_zero(f, 16, 39))
+        return 5;
+    if (!model_has_begun(s))
+        return 10;
+    if (number == 0 || (number != s->done && number != s->done + 1))
+        return 11;
+    if (number == s->done + 1) {
+        if (s->done == ref_count((int)s->n))
+            return 12;
+        ref_step(s->rule, s->window, (int)s->n);
+        s->done++;
+    }
+    write_answer(s, 1, answer);
+    return 0;
+}
+
+static int query(struct wko_session *s, const uint8_t *f, uint8_t *answer)
+{
+    if (!all_zero(f, 5, 39))
+        return 5;
+    if (!model_has_begun(s))
+        return 10;
+    write_answer(s, 0, answer);
+    return 0;
+}
+
+int model_exchange(struct wko_session *s, const uint8_t *frame, size_t frame_len, uint8_t *answer, size_t answer_len)
+{
+    int refusal;
+    if (answer_len < 40)
+        return 1;
+    if (frame_len != 40)
+        refusal = 2;
+    else if (memcmp(frame, "WKO1", 4) != 0)
+        refusal = 3;
+    else if (frame[4] == 'B')
+        refusal = begin(s, frame, answer);
+    else if (frame[4] == 'S')
+        refusal = step(s, frame, answer);
+    else if (frame[4] == 'Q')
+        refusal = query(s, frame, answer);
+    else
+        refusal = 4;
+    if (refusal != 0) {
+        memset(answer, 0, 40);
+        memcpy(answer, "WKA1", 4);
+        answer[4] = (uint8_t)refusal;
+    }
+    return refusal;
+}
