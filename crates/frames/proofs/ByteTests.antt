@@ -1,17 +1,26 @@
 -- What the tests of bytes say: all zero, and the same bytes. Assumes nothing.
-use mathlib.Core.Bool.{true, false, _&&_, false≢true}
+use mathlib.Core.Bool.{true, _&&_, false≢true}
 use mathlib.Core.List.{List, [], _∷_, head-eq-of-cons-eq, tail-eq-of-cons-eq}
 use mathlib.Core.Path.{_≡_, refl, ap₂}
 use Prim.Native.Nat.{ℕ, suc, _+_, _-_, _≤_, _<_}
 use native.Mathlib.Numerals.{add-one}
 use native.Mathlib.Omega.{arith}
 use lib.Dec.{eqb}
-use lib.ListN.{length}
+use lib.ListN.{length, drop, drop-of-length-le}
 use lib.Seq.{drop-cons}
 use Rattle.weak_orders.specs.Window.{all}
 use Rattle.weak_orders.specs.Says.{Says}
 use Rattle.weak_orders.proofs.Tests.{says-as, says-and, says-eq}
 use Rattle.frames.specs.Fields.{byte, part, zeros, sameBytes}
+
+-- the bytes from i on are zero just if the first is, and those behind it
+pub zeros-drop : (f : List ℕ) (i : ℕ) → i < length f → zeros (drop i f) ≡ (eqb 0 (byte f i) && zeros (drop (i + 1) f))
+unfolding zeros all
+zeros-drop f i h = rw (drop-cons f i 0 h, add-one i)
+
+pub zeros-none : (f : List ℕ) (i : ℕ) → length f ≤ i → zeros (drop i f) ≡ true
+unfolding zeros all
+zeros-none f i h = rw (drop-of-length-le f h)
 
 -- the bytes from i up to `end` are zero just if the first is, and those behind it
 pub zeros-next : (f : List ℕ) (i end : ℕ) → i < end → end ≤ length f →

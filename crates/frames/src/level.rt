@@ -1,7 +1,7 @@
 // The level setting of a round, and the level of a symbol.
 ghost use mathlib.Core.Bool.{_&&_};
 ghost use mathlib.Core.Path.{_≡_};
-ghost use Prim.Native.Nat.{_-_, _*_, _≤_};
+ghost use Prim.Native.Nat.{_*_};
 ghost use lib.IntN.{pos, _-ℤ_};
 ghost use Rattle.weak_orders.specs.Window.{isLength};
 ghost use Rattle.frames.specs.Level.{spacings, levelOf, settingOk};

@@ -7,20 +7,19 @@ use native.Mathlib.Omega.{arith}
 use native.Mathlib.Decide.{decLt, ℕ-discrete}
 use lib.Dec.{leb, ltb, eqb}
 use lib.ListN.{length, drop}
-use borrow.Author.Tests.{ltb-true, ltb-false, lt-ltb, le-ltb, le-leb, lt-leb, eq-eqb, ne-eqb}
+use borrow.Author.Tests.{lt-ltb, le-ltb, le-leb, lt-leb, eq-eqb, ne-eqb}
 use Rattle.weak_orders.specs.Window.{isLength}
 use Rattle.weak_orders.proofs.Tests.{by-test}
 use Rattle.successors.specs.Rules.{isRule}
 use Rattle.refusals.specs.declared.Cause.{Cause}
-use Rattle.refusals.specs.declared.Cause.the-variants.{ShortBuffer, FrameLength, FrameHeader, ReservedByte, WindowLength}
-use Rattle.refusals.specs.declared.Cause.the-variants.{RuleNumber, NotWeakOrder, LevelSetting, StepNumber, RoundFinished}
+use Rattle.refusals.specs.declared.Cause.the-variants.{ShortBuffer, FrameLength, FrameHeader, ReservedByte}
+use Rattle.refusals.specs.declared.Cause.the-variants.{StepNumber, RoundFinished}
 use Rattle.frames.specs.declared.answer.Reply.{Reply}
-use Rattle.frames.specs.declared.answer.Reply.the-variants.{Refused}
 use Rattle.frames.specs.Level.{settingOk}
 use Rattle.frames.specs.Question.{isQuestion, kindIn, letterB, lengthIn, ruleIn, settingIn, windowIn, reservedB}
-use Rattle.frames.specs.Answer.{accepted, stateReply}
-use Rattle.stepper.specs.declared.Exchanged.{Exchanged}
-use Rattle.stepper.specs.declared.Session.{Session}
+use Rattle.frames.specs.Answer.{accepted}
+use Rattle.stepper.specs.declared.session.Exchanged.{Exchanged}
+use Rattle.stepper.specs.declared.session.Session.{Session}
 use Rattle.stepper.specs.Exchange.{windowOk, beginReply, refuse, roundIn, beginFrame, handle, answerTo, Outcome, exchange}
 use Rattle.stepper.specs.TwoBenches.{beginOk, BeginAccepted}
 use Rattle.stepper.proofs.Begun.{begin-judged}

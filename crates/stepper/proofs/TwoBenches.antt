@@ -1,24 +1,23 @@
 -- Two sessions, one round: the proof of demand 3. Assumes nothing.
-use mathlib.Core.Bool.{true, false, cond, false≢true}
-use mathlib.Core.List.{List, [], _∷_, _++_, map}
+use mathlib.Core.Bool.{true, false, false≢true}
+use mathlib.Core.List.{List, [], _∷_, map}
 use mathlib.Core.Option.{some}
 use mathlib.Core.Path.{_≡_, refl, sym, ap, _∙_, subst}
 use Prim.Native.Nat.{ℕ, zero, suc, _+_, _-_, _≤_, _<_}
 use native.Mathlib.Omega.{arith}
 use native.Mathlib.Decide.{decLt}
-use lib.ListN.{length, take, drop, replicate, getElem?}
+use lib.ListN.{length, take, drop, getElem?}
 use lib.Seq.{take-at, drop-at, take-length}
-use Rattle.weak_orders.specs.Window.{padded}
 use Rattle.weak_orders.proofs.Padded.{length-padded}
 use Rattle.weak_orders.proofs.Tests.{by-test}
 use Rattle.refusals.specs.declared.Cause.{Cause}
 use Rattle.refusals.specs.declared.Cause.the-variants.{ShortBuffer}
 use Rattle.frames.specs.Question.{kindIn, letterB, letterS, numberIn}
 use Rattle.frames.specs.Answer.{accepted, answerBytes, stepReply}
-use Rattle.stepper.specs.declared.Exchanged.{Exchanged}
-use Rattle.stepper.specs.declared.Session.{Session}
+use Rattle.stepper.specs.declared.session.Exchanged.{Exchanged}
+use Rattle.stepper.specs.declared.session.Session.{Session}
 use Rattle.stepper.specs.Exchange.{refuse, stepped, answerTo, Outcome, exchange}
-use Rattle.stepper.specs.TwoBenches.{Arrival, isNext, accepts, counted, countFrom, roundOf, countOf, causeAt, windowAfter, sessionAt}
+use Rattle.stepper.specs.TwoBenches.{isNext, accepts, counted, countFrom, roundOf, countOf, causeAt, windowAfter, sessionAt}
 use Rattle.stepper.specs.TwoBenches.{replyAt, answerAt, Request, arrival, run, after, InOrder, StepFrames, Position, Answered}
 use Rattle.stepper.specs.TwoBenches.{TurnedDown, SameAnswer, numbersAfter, firsts, TwoBenches, Demand3}
 use Rattle.stepper.proofs.Handling.{written, room, no-room, begin-taken}

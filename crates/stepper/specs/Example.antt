@@ -4,7 +4,7 @@ use mathlib.Core.List.{List, [], _∷_, _++_, map}
 use mathlib.Core.Option.{some}
 use mathlib.Core.Path.{_≡_}
 use Prim.Native.Nat.{ℕ}
-use lib.IntN.{pos, negsuc}
+use lib.IntN.{negsuc}
 use lib.ListN.{take, set, replicate, getElem?}
 use Rattle.refusals.specs.declared.Cause.{Cause}
 use Rattle.refusals.specs.declared.Cause.the-variants.{ShortBuffer, FrameLength, FrameHeader, FrameKind, ReservedByte, WindowLength}
@@ -12,9 +12,9 @@ use Rattle.refusals.specs.declared.Cause.the-variants.{RuleNumber, NotWeakOrder
 use Rattle.frames.specs.declared.answer.Reply.{Reply}
 use Rattle.frames.specs.declared.answer.Reply.the-variants.{Accepted, Refused}
 use Rattle.frames.specs.Answer.{accepted, stateReply}
-use Rattle.stepper.specs.declared.Session.{Session}
+use Rattle.stepper.specs.declared.session.Session.{Session}
 use Rattle.stepper.specs.Exchange.{fresh, Outcome, exchange}
-use Rattle.stepper.specs.TwoBenches.{roundOf, countOf, Request, arrival, run, after, firsts, TwoBenches}
+use Rattle.stepper.specs.TwoBenches.{roundOf, countOf, Request, arrival, run, firsts, TwoBenches}
 
 -- a B frame, an S frame numbered k < 256, a Q frame
 unfoldable pub beginning : List ℕ

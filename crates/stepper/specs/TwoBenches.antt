@@ -18,7 +18,7 @@ use Rattle.frames.specs.declared.answer.Reply.the-variants.{Refused}
 use Rattle.frames.specs.Level.{settingOk}
 use Rattle.frames.specs.Question.{isQuestion, kindIn, letterB, letterS, lengthIn, ruleIn, numberIn, settingIn, windowIn, reservedB, reservedS}
 use Rattle.frames.specs.Answer.{accepted, wka1, answerBytes, stepReply}
-use Rattle.stepper.specs.declared.Session.{Session}
+use Rattle.stepper.specs.declared.session.Session.{Session}
 use Rattle.stepper.specs.Exchange.{windowOk, Outcome, exchange}
 
 -- The count. It is fed the begin frame g, the frames that follow and the lengths of their buffers: no session and no answer.
