@@ -4,7 +4,7 @@ CFLAGS = -std=c11 -O2 -Wall -Wextra -D_DEFAULT_SOURCE
 LIB = target/staticlib/libwko.a
 TESTS = target/host/test_calls
 
-.PHONY: test run lib host-test clean
+.PHONY: test run lib host-test bench clean
 
 test:
 	@.ci/run
@@ -23,6 +23,17 @@ host-test: $(TESTS)
 target/host/%: host/%.c host/reference.c host/reference.h host/testing.h include/wko.h $(LIB)
 	@mkdir -p target/host
 	@$(CC) $(CFLAGS) -o $@ $< host/reference.c $(LIB)
+
+# Speed against plain C in the same run; a report, not a test.
+bench: target/host/bench
+	@target/host/bench
+
+target/staticlib/libwalk.a: $(LIB)
+	@rt staticlib walk >target/staticlib.log 2>&1 || { tail -n 20 target/staticlib.log; exit 1; }
+
+target/host/bench: bench/bench.c bench/baseline.c bench/baseline.h include/wko.h $(LIB) target/staticlib/libwalk.a
+	@mkdir -p target/host
+	@$(CC) -std=c11 -O3 -D_DEFAULT_SOURCE -o $@ bench/bench.c bench/baseline.c $(LIB) target/staticlib/libwalk.a
 
 clean:
 	rm -rf target

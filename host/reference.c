@@ -251,5 +251,9 @@ void ref_window_at(int n, uint64_t place, uint8_t *out)
 
 void ref_random_heights(uint64_t (*next)(void), int n, uint8_t *out)
 {
-    ref_window_at(n, next() % ref_count(n), out);
+    uint8_t w[16];
+    int most = 1 + (int)(next() % (uint64_t)n);
+    for (int i = 0; i < n; i++)
+        w[i] = (uint8_t)(next() % (uint64_t)most);
+    ref_heights(w, n, out);
 }

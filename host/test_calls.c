@@ -93,6 +93,68 @@ static void random_conversions(long rounds)
     }
 }
 
+static void check_next(uint64_t n, uint64_t rule, const uint8_t *w, size_t len)
+{
+    uint32_t want, got = wko_next_symbol(n, rule, lend(w, len), len);
+    if (n < 1 || n > 16)
+        want = 256 + 6;
+    else if (rule < 1 || rule > 3)
+        want = 256 + 7;
+    else if (len != n || !ref_in_form((int)rule, w, (int)n))
+        want = 256 + 8;
+    else
+        want = (uint32_t)ref_next_symbol((int)rule, w, (int)n);
+    CHECK(got == want, "next symbol, n = %llu, rule %llu, length %zu: %u, not %u", (unsigned long long)n,
+          (unsigned long long)rule, len, got, want);
+}
+
+static void refusals_of_next_symbol(void)
+{
+    uint8_t w[20] = {0};
+    for (size_t k = 0; k < sizeof lengths / sizeof *lengths; k++)
+        for (size_t r = 0; r < sizeof lengths / sizeof *lengths; r++)
+            for (size_t len = 0; len <= 20; len++)
+                check_next(lengths[k], lengths[r], w, len);
+}
+
+static void to_ranks(uint8_t *w, int n)
+{
+    uint8_t r[16];
+    ref_ranks(w, n, r);
+    memcpy(w, r, (size_t)n);
+}
+
+/* Random weak orders under each rule, one in four with a symbol changed or of another length. */
+static void random_next_symbols(long rounds)
+{
+    for (long k = 0; k < rounds; k++) {
+        int n = 1 + (int)random_below(16), rule = 1 + (int)random_below(3);
+        size_t len = (size_t)n;
+        uint8_t w[17] = {0};
+        ref_random_heights(random64, n, w);
+        if (rule == 1)
+            to_ranks(w, n);
+        if (random_below(4) == 0)
+            w[random_below((uint64_t)n)] = (uint8_t)random_below(k % 2 ? 20 : 256);
+        if (random_below(32) == 0)
+            len += random_below(2) ? 1 : -1;
+        check_next((uint64_t)n, (uint64_t)rule, w, len);
+    }
+}
+
+/* The whole round of n under a rule, window by window, back to the start. */
+static void whole_round(int rule, int n)
+{
+    uint8_t w[16], first[16];
+    memset(w, rule == 1, sizeof w);
+    memcpy(first, w, sizeof first);
+    for (uint64_t k = 0; k < ref_count(n); k++) {
+        check_next((uint64_t)n, (uint64_t)rule, w, (size_t)n);
+        ref_step(rule, w, n);
+    }
+    CHECK(memcmp(w, first, (size_t)n) == 0, "a round of rule %d, n = %d, ends at its start", rule, n);
+}
+
 static void worked_example(void)
 {
     const uint8_t ranks[8] = {8, 2, 5, 1, 2, 2, 7, 6}, heights[8] = {5, 1, 2, 0, 1, 1, 4, 3};
@@ -111,5 +173,10 @@ int main(void)
         all_strings(n);
     refusals_of_conversions();
     random_conversions(20000);
+    refusals_of_next_symbol();
+    for (int rule = 1; rule <= 3; rule++)
+        for (int n = 1; n <= 7; n++)
+            whole_round(rule, n);
+    random_next_symbols(1000000);
     return report("direct calls");
 }

@@ -10,11 +10,13 @@
  *   rank form:   each symbol is 1 plus the number of places that hold a smaller one (1,2,2 and 1,1,3, but not 1,1,2), or
  *   height form: the symbols present are exactly 0 to some h (0,1,1 and 2,0,1, but not 0,2,2).
  *
- * A call returns 0 when it is done, or 256 + the number of a refusal:
+ * A call returns 0 when it is done (wko_next_symbol: the symbol), or 256 + the number of a refusal:
  *   257 (1)   the buffer is too short
  *   262 (6)   n is not 1 to 16
+ *   263 (7)   the rule is not 1, 2 or 3
  *   264 (8)   the window is not n long, or no weak order of n in the form that the call takes
- * The tests are made in the order 6, 1, 8, and the first that fails decides. A refused call writes no byte.
+ * The tests are made in the order 6, 7, 1, 8, without those that have no meaning in a call, and the first that fails decides.
+ * A refused call writes no byte.
  */
 #ifndef WKO_H
 #define WKO_H
@@ -25,6 +27,11 @@
 #ifdef __cplusplus
 extern "C" {
 #endif
+
+/* The symbol that follows the window under a rule: one step drops the oldest symbol and appends this one.
+ * Rule 1 takes a window in rank form, rules 2 and 3 take one in height form. A round of a(n) such steps meets each weak order of n
+ * once. Returns the symbol, 0 to 16, or a refusal 6, 7, 8. */
+uint32_t wko_next_symbol(uint64_t n, uint64_t rule, const uint8_t *window, size_t window_len);
 
 /* From rank form to height form: the height of a place is the number of different smaller symbols in the window.
  * Takes a window in rank form; writes n bytes to the front of out, which has out_len >= n. Refusals 6, 1, 8. */

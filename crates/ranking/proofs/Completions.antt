@@ -13,13 +13,13 @@ use borrow.Author.Tests.{eqb-true, eq-eqb, ne-eqb}
 use Rattle.weak_orders.specs.Window.{all, count, range, occurs, different, height, isHeight}
 use Rattle.weak_orders.proofs.HeightForm.{height-form, form-height}
 use Rattle.weak_orders.proofs.Lists.{count-nil, count-cons, count-cong, count-map, count-none, in-range, of-range}
-use Rattle.weak_orders.proofs.Symbols.{bound, bound-append, bound-back, different-below, different≤bound, different-old, different-new}
+use Rattle.weak_orders.proofs.Symbols.{bound, bound-append, bound-back, different-below, different≤bound, different≤length, different-old, different-new}
 use Rattle.weak_orders.proofs.Tests.{_∈_, by-test, bit}
-use Rattle.ranking.specs.Counts.{L, sum, a, ways}
+use Rattle.ranking.specs.Counts.{L, sum, a, ways, waysFrom}
 use Rattle.ranking.specs.Dictionary.{strings, heightWindows}
 use Rattle.ranking.proofs.Listing.{length-select, count-select, in-flatMap, of-flatMap}
 use Rattle.ranking.proofs.Sums.{sum-cong, sum-none, sum-append, sum-past, sum-choice, count-flatMap, count-by-value}
-use Rattle.ranking.proofs.Ways.{L-ways, L-none, ways-none}
+use Rattle.ranking.proofs.CountLaws.{L-ways, L-none, ways-none}
 
 -- ---- the strings
 
@@ -113,40 +113,48 @@ fillings-ways k n p (suc r) h h′ =
       ap (λ c. (k - c) * y) e,
     )
 
--- ---- completions: the strings of r symbols below n that make p a height window
-unfoldable pub completions : ℕ → List ℕ → ℕ → ℕ
+-- ---- endings: the strings of r symbols below n that make p a height window
+unfoldable pub endings : ℕ → List ℕ → ℕ → ℕ
 unfolding count isHeight strings
-completions n p r = count (λ s. isHeight (p ++ s)) (strings r n)
+endings n p r = count (λ s. isHeight (p ++ s)) (strings r n)
 
-pub completions-suc : (n : ℕ) (p : List ℕ) (r : ℕ) → completions n p (suc r) ≡ sum (λ v. completions n (p ++ (v ∷ [])) r) n
-unfolding completions fillings
-completions-suc n p r = fillings-suc isHeight n p r
+pub endings-suc : (n : ℕ) (p : List ℕ) (r : ℕ) → endings n p (suc r) ≡ sum (λ v. endings n (p ++ (v ∷ [])) r) n
+unfolding endings fillings
+endings-suc n p r = fillings-suc isHeight n p r
 
-pub completions-zero : (n : ℕ) (p : List ℕ) → completions n p 0 ≡ bit (isHeight p)
-unfolding completions fillings
-completions-zero n p = fillings-zero isHeight n p
+pub endings-zero : (n : ℕ) (p : List ℕ) → endings n p 0 ≡ bit (isHeight p)
+unfolding endings fillings
+endings-zero n p = fillings-zero isHeight n p
 
 -- they are told apart by how many different symbols they come to
-by-different : (n : ℕ) (p : List ℕ) (r : ℕ) → bound p ≤ n → completions n p r ≡ sum (λ k. fillings (isHeightOf k) n p r) (suc n)
-unfolding completions fillings
+by-different : (n : ℕ) (p : List ℕ) (r : ℕ) → bound p ≤ n → endings n p r ≡ sum (λ k. fillings (isHeightOf k) n p r) (suc n)
+unfolding endings fillings
 by-different n p r h = count-by-value (λ s. isHeight (p ++ s)) (λ s. different (p ++ s)) (suc n) (strings r n)
     (λ s m i. let (e, b) = of-strings r n m in omega (arith, different≤bound (p ++ s), bound-append p s))
 
--- so with d different symbols in p: f(r, k - d, d) for each number k of symbols from the bound of p to n
-pub completions-ways : (n : ℕ) (p : List ℕ) (r : ℕ) → bound p ≤ n →
-    completions n p r ≡ sum (λ j. ways r (bound p + j - different p) (different p)) (suc n - bound p)
-completions-ways n p r h =
+-- so with d different symbols in p: the ways for each number k of symbols from the bound of p on, with k - d missing
+pub endings-ways : (n : ℕ) (p : List ℕ) (r : ℕ) → bound p ≤ n → length p + r ≡ n → endings n p r ≡ waysFrom r (bound p - different p) (different p)
+unfolding waysFrom
+endings-ways n p r h e =
     let b = bound p in
+    let d = different p in
+    let m = b - d in
+    let c = suc r - m in
+    let fit : b + c ≤ suc n = omega (arith, different≤bound p, different≤length p) in
+    let l = suc n - (b + c) in
+    let all : suc n ≡ b + (c + l) = omega arith in
     let f : ℕ → ℕ = λ k. fillings (isHeightOf k) n p r in
-    let all : suc n ≡ b + (suc n - b) = omega arith in
+    let g : ℕ → ℕ = λ j. ways r (m + j) d in
+    let same : (j : ℕ) → j < c + l → f (b + j) ≡ g j = λ j lt.
+    fillings-ways (b + j) n p r (omega arith) (omega arith) ∙ ap (λ k. ways r k d) (omega (arith, different≤bound p)) in
     omega (
       arith,
       by-different n p r h,
       ap (sum f) all,
-      sum-append f b (suc n - b),
+      sum-append f b (c + l),
       sum-none f b (λ k l. no-fillings k n p r l),
-      sum-cong (λ j. f (b + j)) (λ j. ways r (b + j - different p) (different p)) (suc n - b)
-          (λ j l. fillings-ways (b + j) n p r (omega arith) (omega arith)),
+      sum-cong (λ j. f (b + j)) g (c + l) same,
+      sum-past g c l (λ j lo hi. ways-none r (m + j) d (omega arith)),
     )
 
 -- ---- the numbers of height windows
@@ -165,10 +173,10 @@ pub heightWindows-different : (n k : ℕ) → count (λ w. eqb (different w) k) 
 unfolding heightWindows fillings
 heightWindows-different n k = count-select isHeight (λ w. eqb (different w) k) (strings n n) ∙ fillings-L n k
 
-pub completions-all : (n : ℕ) → completions n [] n ≡ a n
+pub endings-all : (n : ℕ) → endings n [] n ≡ a n
 unfolding a bound
-completions-all n = by-different n [] n (omega arith) ∙ sum-cong (λ k. fillings (isHeightOf k) n [] n) (L n) (suc n) (λ k l. fillings-L n k)
+endings-all n = by-different n [] n (omega arith) ∙ sum-cong (λ k. fillings (isHeightOf k) n [] n) (L n) (suc n) (λ k l. fillings-L n k)
 
 pub heightWindows-length : (n : ℕ) → length (heightWindows n) ≡ a n
-unfolding heightWindows completions
-heightWindows-length n = length-select isHeight (strings n n) ∙ completions-all n
+unfolding heightWindows endings
+heightWindows-length n = length-select isHeight (strings n n) ∙ endings-all n

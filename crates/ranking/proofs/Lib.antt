@@ -1,9 +1,14 @@
 pub mod Listing
 pub mod Sums
-pub mod Ways
+pub mod CountLaws
 pub mod Completions
 pub mod Size
 pub mod Sorted
 pub mod Strings
 pub mod Places
 pub mod WindowAt
+pub mod Tabled
+pub mod Prefixes
+pub mod Following
+pub mod Loops
+pub mod Answered

@@ -4,7 +4,7 @@ use mathlib.Core.Path.{_≡_, refl, sym, ap, _∙_}
 use mathlib.Core.List.{List, [], _∷_, _++_}
 use Prim.Native.Nat.{ℕ, zero, suc, _+_, _-_, _≤_, _<_}
 use native.Mathlib.Omega.{arith}
-use lib.ListN.{length, getD, take, drop, length-drop}
+use lib.ListN.{length, getD, take, drop, length-append}
 use lib.Seq.{append-snoc, take-suc, drop-cons, drop-length}
 use Rattle.weak_orders.specs.Order.{lexLt}
 use Rattle.weak_orders.specs.Window.{all, count, isRank, isHeight, heights, ranks}
@@ -12,13 +12,14 @@ use Rattle.weak_orders.proofs.Conversions.{ranks-isRank, heights-isHeight, leng
 use Rattle.weak_orders.proofs.HeightForm.{height-bound}
 use Rattle.weak_orders.proofs.Lists.{count-cong, count-none}
 use Rattle.weak_orders.proofs.Orders.{lexLt-nil, lexLt-less, lexLt-greater, lexLt-equal, lexLt-irreflexive, lexLt-asymmetric}
-use Rattle.weak_orders.proofs.Symbols.{bound}
+use Rattle.weak_orders.proofs.Symbols.{bound, bound-back}
 use Rattle.weak_orders.proofs.Tests.{_∈_}
 use Rattle.ranking.specs.Counts.{sum, a}
-use Rattle.ranking.specs.Dictionary.{strings, heightWindows, place, windowAt}
+use Rattle.ranking.specs.Dictionary.{strings, heightWindows, completions, place, windowAt}
 use Rattle.ranking.specs.Numbering.{Numbering}
-use Rattle.ranking.proofs.Completions.{in-strings, of-strings, count-strings, fillings, completions, heightWindows-length}
+use Rattle.ranking.proofs.Completions.{in-strings, of-strings, count-strings, fillings, endings, heightWindows-length}
 use Rattle.ranking.proofs.Listing.{in-select, of-select, count-select}
+use Rattle.ranking.proofs.Prefixes.{sum-endings}
 use Rattle.ranking.proofs.Sorted.{sorted-numbering}
 use Rattle.ranking.proofs.Strings.{heightWindows-sorted}
 use Rattle.ranking.proofs.Sums.{sum-zero, sum-suc, sum-cong, sum-past}
@@ -73,53 +74,60 @@ ranks-numbered n =
 unfoldable pub placeFrom : ℕ → List ℕ → List ℕ → ℕ
 unfolding sum completions
 placeFrom n p [] = 0
-placeFrom n p (x ∷ s) = sum (λ v. completions n (p ++ (v ∷ [])) (length s)) x + placeFrom n (p ++ (x ∷ [])) s
+placeFrom n p (x ∷ s) = sum (λ v. completions n (p ++ (v ∷ []))) x + placeFrom n (p ++ (x ∷ [])) s
 
-placeFrom-count : (n : ℕ) (p s : List ℕ) → bound s ≤ n →
+placeFrom-count : (n : ℕ) (p s : List ℕ) → bound p ≤ n → bound s ≤ n → length p + length s ≡ n →
     placeFrom n p s ≡ count (λ t. isHeight (p ++ t) && lexLt t s) (strings (length s) n)
-unfolding placeFrom completions fillings bound
-placeFrom-count n p [] h = sym (count-none (λ t. isHeight (p ++ t) && lexLt t []) (strings 0 n) (λ t m. rw (lexLt-nil t, and-false)))
-placeFrom-count n p (x ∷ s) h =
+unfolding placeFrom endings fillings bound
+placeFrom-count n p [] h h′ e = sym (count-none (λ t. isHeight (p ++ t) && lexLt t []) (strings 0 n) (λ t m. rw (lexLt-nil t, and-false)))
+placeFrom-count n p (x ∷ s) h h′ e =
     let r = length s in
     let q : List ℕ → Bool = λ t. isHeight (p ++ t) && lexLt t (x ∷ s) in
     let g : ℕ → ℕ = λ v. count (λ t. q (v ∷ t)) (strings r n) in
     let all : n ≡ suc x + (n - suc x) = omega arith in
-    let less : (v : ℕ) → v < x → g v ≡ completions n (p ++ (v ∷ [])) r = λ v l.
+    let less : (v : ℕ) → v < x → g v ≡ endings n (p ++ (v ∷ [])) r = λ v l.
     count-cong (λ t. q (v ∷ t)) (λ t. isHeight (p ++ (v ∷ []) ++ t)) (strings r n)
     (λ t m. rw (lexLt-less v x t s l, and-true, append-snoc)) in
     let same : g x ≡ placeFrom n (p ++ (x ∷ [])) s =
     count-cong (λ t. q (x ∷ t)) (λ t. isHeight (p ++ (x ∷ []) ++ t) && lexLt t s) (strings r n)
     (λ t m. rw (lexLt-equal x x t s refl, append-snoc))
-    ∙ sym (placeFrom-count n (p ++ (x ∷ [])) s (omega arith)) in
+    ∙ sym (placeFrom-count n (p ++ (x ∷ [])) s (omega (arith, bound-back p x)) (omega arith) (omega (arith, length-append p (x ∷ [])))) in
     let greater = sum-past g (suc x) (n - suc x) (λ v a b.
     count-none (λ t. q (v ∷ t)) (strings r n) (λ t m. rw (lexLt-greater v x t s a, and-false))) in
-    omega (arith, count-strings q r n, ap (sum g) all, greater, sum-suc g x, same, sum-cong g (λ v. completions n (p ++ (v ∷ [])) r) x less)
+    omega (
+      arith,
+      count-strings q r n,
+      ap (sum g) all,
+      greater,
+      sum-suc g x,
+      same,
+      sum-cong g (λ v. endings n (p ++ (v ∷ [])) r) x less,
+      sum-endings n p r h e x (omega arith),
+    )
 
 pub place-by-prefixes : (w : List ℕ) → bound w ≤ length w → place w ≡ placeFrom (length w) [] w
-unfolding place heightWindows
-place-by-prefixes w h = count-select isHeight (λ u. lexLt u w) (strings (length w) (length w)) ∙ sym (placeFrom-count (length w) [] w h)
+unfolding place heightWindows bound
+place-by-prefixes w h = count-select isHeight (λ u. lexLt u w) (strings (length w) (length w))
+    ∙ sym (placeFrom-count (length w) [] w (omega arith) h (omega arith))
 
--- what the symbol at the index i adds to the place
+-- what the symbol at the index i adds to the place: the completions of the symbols before it with a smaller one behind
 unfoldable pub placeAt : List ℕ → ℕ → ℕ
 unfolding sum completions
-placeAt w i = sum (λ v. completions (length w) (take i w ++ (v ∷ [])) (length w - suc i)) (getD w i 0)
+placeAt w i = sum (λ v. completions (length w) (take i w ++ (v ∷ []))) (getD w i 0)
 
 placeFrom-next : (w : List ℕ) (i : ℕ) → i < length w →
     placeFrom (length w) (take i w) (drop i w) ≡ placeAt w i + placeFrom (length w) (take (suc i) w) (drop (suc i) w)
 unfolding placeFrom placeAt
 placeFrom-next w i l =
     let n = length w in
-    let s = drop (suc i) w in
-    let x = getD w i 0 in
-    let e = ap (λ m. sum (λ v. completions n (take i w ++ (v ∷ [])) m) x) (length-drop (suc i) w) in
-    ap (placeFrom n (take i w)) (drop-cons w i 0 l) ∙ omega (arith, e, ap (λ q. placeFrom n q s) (take-suc w i 0 l))
+    ap (placeFrom n (take i w)) (drop-cons w i 0 l) ∙ rw (take-suc w i 0 l)
 
--- a loop over the symbols: what it has added up after i of them, and what is to come
-pub place-upto : (w : List ℕ) → bound w ≤ length w → (i : ℕ) → i ≤ length w →
-    place w ≡ sum (placeAt w) i + placeFrom (length w) (take i w) (drop i w)
-place-upto w h zero l = omega (arith, place-by-prefixes w h, sum-zero (placeAt w))
-place-upto w h (suc i) l = omega (arith, place-upto w h i (omega arith), placeFrom-next w i l, sum-suc (placeAt w) i)
+module _ (w : List ℕ) (h : bound w ≤ length w) where
+  -- a loop over the symbols: what it has added up after i of them, and what is to come
+  pub place-upto : (i : ℕ) → i ≤ length w → place w ≡ sum (placeAt w) i + placeFrom (length w) (take i w) (drop i w)
+  place-upto zero l = omega (arith, place-by-prefixes w h, sum-zero (placeAt w))
+  place-upto (suc i) l = omega (arith, place-upto i (omega arith), placeFrom-next w i l, sum-suc (placeAt w) i)
 
-pub place-sum : (w : List ℕ) → bound w ≤ length w → place w ≡ sum (placeAt w) (length w)
-unfolding placeFrom
-place-sum w h = omega (arith, place-upto w h (length w) (omega arith), ap (placeFrom (length w) (take (length w) w)) (drop-length w))
+  pub place-sum : place w ≡ sum (placeAt w) (length w)
+  unfolding placeFrom
+  place-sum = omega (arith, place-upto (length w) (omega arith), ap (placeFrom (length w) (take (length w) w)) (drop-length w))

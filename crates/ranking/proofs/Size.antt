@@ -1,5 +1,5 @@
 -- How large the numbers get: none is more than the number of weak orders. Assumes nothing.
-use mathlib.Core.Path.{_≡_, refl, ap, _∙_}
+use mathlib.Core.Path.{_≡_, refl, ap, ap₂, _∙_}
 use mathlib.Core.List.{List, [], _∷_, _++_, append-nil}
 use Prim.Native.Nat.{ℕ, zero, suc, _+_, _-_, _≤_, _<_}
 use native.Mathlib.Nat.{zero-add, suc-add}
@@ -11,28 +11,28 @@ use Rattle.weak_orders.specs.Window.{range, different}
 use Rattle.weak_orders.proofs.HeightForm.{says-height, height-form}
 use Rattle.weak_orders.proofs.Lists.{in-range, of-range, length-range}
 use Rattle.weak_orders.proofs.Symbols.{bound, bound-back}
-use Rattle.ranking.specs.Counts.{a, ways}
-use Rattle.ranking.proofs.Completions.{completions, completions-suc, completions-ways, completions-all}
+use Rattle.ranking.specs.Counts.{a, ways, waysFrom}
+use Rattle.ranking.proofs.Completions.{endings, endings-suc, endings-ways, endings-all}
 use Rattle.ranking.proofs.Sums.{term≤sum}
-use Rattle.ranking.proofs.Ways.{ways-none}
+use Rattle.ranking.proofs.CountLaws.{waysFrom-next, a-mono}
 
--- a prefix has no more completions than a shorter one
-pub completions-part : (n : ℕ) (p : List ℕ) (v r : ℕ) → v < n → completions n (p ++ (v ∷ [])) r ≤ completions n p (suc r)
-completions-part n p v r l = omega (arith, completions-suc n p r, term≤sum (λ v. completions n (p ++ (v ∷ [])) r) n v l)
+-- a prefix has no more endings than a shorter one
+pub endings-part : (n : ℕ) (p : List ℕ) (v r : ℕ) → v < n → endings n (p ++ (v ∷ [])) r ≤ endings n p (suc r)
+endings-part n p v r l = omega (arith, endings-suc n p r, term≤sum (λ v. endings n (p ++ (v ∷ [])) r) n v l)
 
-completions-append : (n : ℕ) (p s : List ℕ) (r : ℕ) → bound s ≤ n → completions n (p ++ s) r ≤ completions n p (length s + r)
+endings-append : (n : ℕ) (p s : List ℕ) (r : ℕ) → bound s ≤ n → endings n (p ++ s) r ≤ endings n p (length s + r)
 unfolding bound
-completions-append n p [] r h = omega (arith, ap (λ q. completions n q r) (append-nil p), ap (completions n p) (zero-add r))
-completions-append n p (x ∷ s) r h = omega (
+endings-append n p [] r h = omega (arith, ap (λ q. endings n q r) (append-nil p), ap (endings n p) (zero-add r))
+endings-append n p (x ∷ s) r h = omega (
   arith,
-  ap (λ q. completions n q r) (append-snoc p x s),
-  ap (completions n p) (suc-add (length s) r),
-  completions-append n (p ++ (x ∷ [])) s r (omega arith),
-  completions-part n p x (length s + r) (omega arith),
+  ap (λ q. endings n q r) (append-snoc p x s),
+  ap (endings n p) (suc-add (length s) r),
+  endings-append n (p ++ (x ∷ [])) s r (omega arith),
+  endings-part n p x (length s + r) (omega arith),
 )
 
-pub completions≤a : (n : ℕ) (p : List ℕ) (r : ℕ) → bound p ≤ n → length p + r ≡ n → completions n p r ≤ a n
-completions≤a n p r h e = omega (arith, completions-append n [] p r h, ap (completions n []) e, completions-all n)
+pub endings≤a : (n : ℕ) (p : List ℕ) (r : ℕ) → bound p ≤ n → length p + r ≡ n → endings n p r ≤ a n
+endings≤a n p r h e = omega (arith, endings-append n [] p r h, ap (endings n []) e, endings-all n)
 
 -- the prefix 0 1 … p - 1
 bound-range : (n : ℕ) → bound (range n) ≡ n
@@ -45,21 +45,31 @@ different-range n =
     height-form (range n) (says-height (range n) .of (λ x m u l. in-range n u (omega (arith, of-range n m))))
     ∙ bound-range n
 
--- has these ways among its completions
+-- has these ways to be completed
+pub waysFrom≤a : (r m p : ℕ) → waysFrom r m p ≤ a (p + r)
+waysFrom≤a r zero p =
+    let q = range p in
+    let b = bound-range p in
+    let e = length-range p in
+    let same : bound q - different q ≡ 0 = omega (arith, different-range p) in
+    omega (
+      arith,
+      endings≤a (p + r) q r (omega arith) (omega arith),
+      endings-ways (p + r) q r (omega arith) (omega arith),
+      ap₂ (waysFrom r) same (different-range p),
+    )
+waysFrom≤a r (suc m) p = omega (arith, waysFrom-next r m p, waysFrom≤a r m p)
+
 pub ways≤a : (r m p : ℕ) → ways r m p ≤ a (p + r)
-ways≤a r m p = elim (decLe m r) [
-  | yes l ↦
-      let q = range p in
-      let d = different-range p in
-      let b = bound-range p in
-      let f : ℕ → ℕ = λ j. ways r (bound q + j - different q) (different q) in
-      let e : bound q + m - different q ≡ m = omega arith in
-      let same : f m ≡ ways r m p = cc in
-      omega (
-        arith,
-        completions≤a (p + r) q r (omega arith) (omega (arith, length-range p)),
-        completions-ways (p + r) q r (omega arith),
-        term≤sum f (suc (p + r) - bound q) m (omega arith),
-      )
-  | no l ↦ omega (arith, ways-none r m p (omega arith))
-]
+ways≤a r m p = omega (arith, waysFrom-next r m p, waysFrom≤a r m p)
+
+-- a(16), which fits 64 bits; so do all of the numbers above, up to 16
+pub a≤a16 : (n : ℕ) → n ≤ 16 → a n ≤ 5315654681981355
+unfolding a
+a≤a16 n h = let e : a 16 ≡ 5315654681981355 = refl in omega (arith, a-mono n 16 h)
+
+pub waysFrom-small : (r m p : ℕ) → r + p ≤ 16 → waysFrom r m p ≤ 5315654681981355
+waysFrom-small r m p h = omega (arith, waysFrom≤a r m p, a≤a16 (p + r) (omega arith))
+
+pub ways-small : (r m p : ℕ) → r + p ≤ 16 → ways r m p ≤ 5315654681981355
+ways-small r m p h = omega (arith, ways≤a r m p, a≤a16 (p + r) (omega arith))

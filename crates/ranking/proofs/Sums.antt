@@ -5,6 +5,7 @@ use mathlib.Core.Path.{_≡_, refl, sym, ap, _∙_}
 use mathlib.Core.List.{List, [], _∷_, flatMap, List·Memᴰ·head as here, List·Memᴰ·tail as there}
 use Prim.Native.Nat.{ℕ, zero, suc, _+_, _-_, _*_, _≤_, _<_}
 use native.Mathlib.Nat.{add-zero, add-suc}
+use native.Mathlib.Numerals.{add-one}
 use native.Mathlib.Omega.{arith}
 use native.Mathlib.Decide.{decLt, le-ind}
 use lib.Dec.{eqb}
@@ -24,6 +25,10 @@ pub sum-suc : (f : ℕ → ℕ) (n : ℕ) → sum f (suc n) ≡ sum f n + f n
 unfolding sum
 sum-suc f n = refl
 
+-- the same, as code counts
+pub sum-more : (f : ℕ → ℕ) (n : ℕ) → sum f n + f n ≡ sum f (n + 1)
+sum-more f n = sym (ap (sum f) (add-one n) ∙ sum-suc f n)
+
 pub sum-cong : (f g : ℕ → ℕ) (n : ℕ) → ((i : ℕ) → i < n → f i ≡ g i) → sum f n ≡ sum g n
 unfolding sum
 sum-cong f g zero h = refl
@@ -41,6 +46,10 @@ sum-add f g (suc n) = omega (arith, sum-add f g n)
 
 pub sum-mono : (f : ℕ → ℕ) (m n : ℕ) → m ≤ n → sum f m ≤ sum f n
 sum-mono f m n h = le-ind (λ n. sum f m ≤ sum f n) (omega arith) (λ n l i. omega (arith, sum-suc f n)) n h
+
+-- a sum that is less has fewer terms
+pub sum-before : (f : ℕ → ℕ) (m n k : ℕ) → sum f m ≤ k → k < sum f n → m < n
+sum-before f m n k h lt = elim (decLt m n) [ yes l ↦ l | no l ↦ absurd (omega (arith, sum-mono f n m (omega arith))) ]
 
 pub term≤sum : (f : ℕ → ℕ) (n i : ℕ) → i < n → f i ≤ sum f n
 term≤sum f n i l = omega (arith, sum-suc f i, sum-mono f (suc i) n l)

@@ -1,7 +1,8 @@
 -- All height windows of n in dictionary order, and places in it (document 01, "Place").
-use mathlib.Core.Bool.{Bool, true, false, cond}
+use mathlib.Core.Bool.{Bool, true, false, cond, _&&_}
 use mathlib.Core.List.{List, [], _∷_, _++_, map, flatMap}
 use Prim.Native.Nat.{ℕ, zero, suc}
+use lib.Dec.{eqb}
 use lib.ListN.{length, getD}
 use Rattle.weak_orders.specs.Window.{count, range, isHeight}
 use Rattle.weak_orders.specs.Order.{lexLt}
@@ -28,3 +29,17 @@ place w = count (λ u. lexLt u w) (heightWindows (length w))
 unfoldable pub windowAt : ℕ → ℕ → List ℕ
 unfolding heightWindows
 windowAt n i = getD (heightWindows n) i []
+
+unfoldable pub begins : List ℕ → List ℕ → Bool
+begins [] w = true
+begins (x ∷ p) [] = false
+begins (x ∷ p) (y ∷ w) = eqb x y && begins p w
+
+-- document 01's completions of a prefix, counted: the height windows of n that begin with p
+unfoldable pub completions : ℕ → List ℕ → ℕ
+unfolding count begins heightWindows
+completions n p = count (begins p) (heightWindows n)
+
+-- those in which v comes next
+abbrev pub completionsWith : ℕ → List ℕ → ℕ → ℕ
+completionsWith n p v = completions n (p ++ (v ∷ []))

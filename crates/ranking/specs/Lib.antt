@@ -1,3 +1,5 @@
 pub mod Counts
 pub mod Dictionary
 pub mod Numbering
+pub mod Tables
+pub mod Answers

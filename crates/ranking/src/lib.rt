@@ -1,2 +1,262 @@
-// The numbers L(n, k) and a(n), and the places of height windows in dictionary order.
-// Rests on weak_orders. Completions of a prefix are counted, never listed.
+// The numbers a(n) and L(n, k) of weak orders, and the places of height windows in dictionary order (document 01, "Windows" and
+// "Place"). Rests on weak_orders. Completions of a prefix are counted, never listed. Knows no rule and no session; a rank window has
+// the place of its heights, and is converted by the caller.
+ghost use mathlib.Core.Bool.{cond, true, false, _&&_};
+ghost use mathlib.Core.Path.{_≡_};
+ghost use Prim.Native.Nat.{ℕ, max, _+_, _-_, _^_, _≤_, _<_};
+ghost use lib.Dec.{leb};
+ghost use lib.ListN.{getD, take};
+ghost use Rattle.weak_orders.specs.Converted.{isHeightWindow};
+ghost use Rattle.weak_orders.specs.Window.{padded};
+ghost use Rattle.weak_orders.proofs.Symbols.{bound};
+ghost use Rattle.ranking.specs.Answers.{placed, located};
+ghost use Rattle.ranking.specs.Counts.{L, a, sum, ways, waysFrom, Found};
+ghost use Rattle.ranking.specs.Dictionary.{completionsWith, place, windowAt};
+ghost use Rattle.ranking.specs.Tables.{Entries};
+
+mod tables;
+
+// a(n), the weak orders of n; 0 past 16.
+pub fn weak_order_count(n: usize) -> u64
+    ensures { λ r. ⌜ r ≡ cond (leb n 16) (a n) 0 ⌝ }
+{
+    if 16 < n {
+        return 0;
+    }
+    let counts = tables::totals();
+    counts[n]
+}
+
+// L(n, k), the weak orders of n with exactly k different symbols; 0 outside the table.
+pub fn weak_order_count_with(n: usize, k: usize) -> u64
+    ensures { λ r. ⌜ r ≡ cond (leb n 16 && leb k 16) (L n k) 0 ⌝ }
+{
+    if 16 < n {
+        return 0;
+    }
+    if 16 < k {
+        return 0;
+    }
+    let counts = tables::by_symbols();
+    counts[n * 17 + k]
+}
+
+// The ways to fill rest places with the present heights, none being missing.
+fn none_missing(rest: u64, present: u64) -> u64
+    requires { ⌜ rest + present ≤ 16 ⌝ }
+    ensures { λ r. ⌜ r ≡ ways rest 0 present ⌝ }
+{
+    let mut total = 1;
+    let mut places = 0;
+    while places < rest {
+        total *= present;
+        places += 1;
+    }
+    total
+}
+
+// The ways to fill rest places where each of the missing heights has to stand in one, and any of the present may. With one missing
+// these are the fillings by one height more, without those that do not use it. With more, some places take present heights, in so many
+// fillings, the next takes a missing one, which is then present, and fewer places are left. More heights than places leave no way.
+fn ways(rest: u64, missing: u64, present: u64) -> u64
+    requires { ⌜ rest + present < 16 ⌝ }
+    ensures { λ r. ⌜ r ≡ ways rest missing present ⌝ }
+{
+    if present == 0 {
+        return weak_order_count_with(rest as usize, missing as usize);
+    }
+    if missing == 0 {
+        return none_missing(rest, present);
+    }
+    if missing == 1 {
+        return none_missing(rest, present + 1) - none_missing(rest, present);
+    }
+    let mut total = 0;
+    let mut fillings = 1;
+    let mut left = rest;
+    while missing <= left {
+        left -= 1;
+        total += fillings * missing * ways(left, missing - 1, present + 1);
+        fillings *= present;
+    }
+    total
+}
+
+// For each m up to 16: the ways to fill rest places with m or more missing heights.
+fn ways_from(rest: u64, present: u64) -> [u64; 17]
+    requires { ⌜ rest + present < 16 ⌝ }
+    ensures { λ r. ⌜ Entries r (λ m. waysFrom rest m present) 17 ⌝ }
+{
+    let mut totals = [0u64; 17];
+    let mut total = 0;
+    let mut m: usize = 17;
+    while 0 < m {
+        m -= 1;
+        total += ways(rest, m as u64, present);
+        totals[m] = total;
+    }
+    totals
+}
+
+fn larger(x: usize, y: usize) -> usize
+    ensures { λ r. ⌜ r ≡ max x y ⌝ }
+{
+    if x < y { y } else { x }
+}
+
+// One more than the largest of the first i symbols; 0 where there is none.
+fn bound(w: [u8; 16], i: usize) -> usize
+    requires { ⌜ i ≤ 16 ⌝ }
+    ensures { λ r. ⌜ r ≡ bound (take i w) ⌝ }
+{
+    let mut b = 0;
+    let mut j = 0;
+    while j < i {
+        b = larger(b, w[j] as usize + 1);
+        j += 1;
+    }
+    b
+}
+
+// The completions of a prefix with one symbol more. totals holds the ways with m or more missing heights, and missing is how many
+// the prefix then misses, the symbol itself among them where the prefix does not hold it.
+fn with_symbol(totals: [u64; 17], missing: usize, held: bool) -> u64
+    requires { ⌜ (missing < 17) × (held ≡ false → 0 < missing) × ((m : ℕ) → m < 17 → getD totals m 0 < 2 ^ 63) ⌝ }
+    ensures { λ r. ⌜ r ≡ cond held (getD totals missing 0) (getD totals (missing - 1) 0 + getD totals missing 0) ⌝ }
+{
+    if held {
+        return totals[missing];
+    }
+    totals[missing - 1] + totals[missing]
+}
+
+// For each symbol v below n: the completions of the first i symbols of w with v behind them.
+fn continuations(w: [u8; 16], n: usize, i: usize) -> [u64; 16]
+    requires { ⌜ (i < n) × (n ≤ 16) × (bound (take i w) ≤ n) ⌝ }
+    ensures { λ r. ⌜ Entries r (completionsWith n (take i w)) n ⌝ }
+{
+    let present = weak_orders::different(w, i) as usize;
+    let seen = weak_orders::counts(w, 0, i);
+    let top = bound(w, i);
+    let totals = ways_from((n - 1 - i) as u64, present as u64);
+    let mut counts = [0u64; 16];
+    let mut v: usize = 0;
+    while v < n {
+        let missing = larger(top, v + 1) - present;
+        counts[v] = with_symbol(totals, missing, 0 < seen[v]);
+        v += 1;
+    }
+    counts
+}
+
+// The first v counts added up.
+fn sum_below(counts: [u64; 16], v: usize) -> u64
+    requires { ⌜ (v ≤ 16) × (sum (λ u. getD counts u 0) v < 2 ^ 63) ⌝ }
+    ensures { λ r. ⌜ r ≡ sum (λ u. getD counts u 0) v ⌝ }
+{
+    let mut total = 0;
+    let mut u = 0;
+    while u < v {
+        total += counts[u];
+        u += 1;
+    }
+    total
+}
+
+// The place of a height window: for each symbol, the completions of those before it with a smaller one behind.
+fn place_of(w: [u8; 16], n: usize) -> u64
+    requires { ⌜ isHeightWindow n w ≡ true ⌝ }
+    ensures { λ r. ⌜ r ≡ place (take n w) ⌝ }
+{
+    let mut before = 0;
+    let mut i = 0;
+    while i < n {
+        before += sum_below(continuations(w, n, i), w[i] as usize);
+        i += 1;
+    }
+    before
+}
+
+// A symbol, and how many of the windows that have it stand before the one that is looked for.
+struct Next {
+    symbol: u8,
+    left: u64,
+}
+
+// The symbol of the window at the place left, where counts says how many windows go on with each symbol below n.
+fn symbol_at(counts: [u64; 16], n: usize, left: u64) -> Next
+    requires { ⌜ (n ≤ 16) × (left < sum (λ u. getD counts u 0) n) ⌝ }
+    ensures { λ r. ⌜ (r .symbol < n) × Found (λ u. getD counts u 0) left (r .symbol) (r .left) ⌝ }
+{
+    let mut rest = left;
+    let mut v: usize = 0;
+    while counts[v] <= rest {
+        rest -= counts[v];
+        v += 1;
+    }
+    Next {
+        symbol: v as u8,
+        left: rest,
+    }
+}
+
+// The window at a place, symbol by symbol.
+fn window_of(n: usize, place: u64) -> [u8; 16]
+    requires { ⌜ (n ≤ 16) × (place < a n) ⌝ }
+    ensures { λ r. ⌜ r ≡ padded (windowAt n place) ⌝ }
+{
+    let mut window = [0u8; 16];
+    let mut left = place;
+    let mut i = 0;
+    while i < n {
+        let next = symbol_at(continuations(window, n, i), n, left);
+        window[i] = next.symbol;
+        left = next.left;
+        i += 1;
+    }
+    window
+}
+
+// The place of a window, or that it has none.
+pub enum Placed {
+    At(u64),
+    NotHeightForm,
+}
+
+// The place of the first n symbols of w in dictionary order, where they are a height window.
+pub fn place(w: [u8; 16], n: usize) -> Placed
+    ensures { λ r. ⌜ r ≡ placed n w ⌝ }
+{
+    if !weak_orders::is_height(w, n) {
+        return Placed::NotHeightForm;
+    }
+    Placed::At(place_of(w, n))
+}
+
+// The window at a place; not found, and sixteen zeros, where there is none.
+pub struct Located {
+    pub found: bool,
+    pub window: [u8; 16],
+}
+
+// The height window of n at a place. Past 16 there are no places.
+pub fn window_at(n: usize, place: u64) -> Located
+    ensures { λ r. ⌜ r ≡ located n place ⌝ }
+{
+    if n == 0 {
+        return Located {
+            found: false,
+            window: [0u8; 16],
+        };
+    }
+    if weak_order_count(n) <= place {
+        return Located {
+            found: false,
+            window: [0u8; 16],
+        };
+    }
+    Located {
+        found: true,
+        window: window_of(n, place),
+    }
+}

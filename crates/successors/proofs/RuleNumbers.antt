@@ -2,10 +2,12 @@
 use mathlib.Core.List.{List}
 use mathlib.Core.Logic.{_≢_}
 use mathlib.Core.Path.{_≡_}
-use Prim.Native.Nat.{ℕ}
-use borrow.Author.Tests.{eq-eqb, ne-eqb}
+use Prim.Native.Nat.{ℕ, _≤_}
+use borrow.Author.Tests.{leb-true, le-leb, eq-eqb, ne-eqb}
+use Rattle.weak_orders.specs.Says.{Says}
 use Rattle.weak_orders.specs.Window.{isRank, isHeight}
-use Rattle.successors.specs.Rules.{rule1, rule2, rule3, ruleOf, inForm}
+use Rattle.weak_orders.proofs.Tests.{says-and}
+use Rattle.successors.specs.Rules.{rule1, rule2, rule3, ruleOf, inForm, isRule}
 
 module _ (rule : ℕ) (w : List ℕ) where
   pub form-rank : rule ≡ 1 → inForm rule w ≡ isRank w
@@ -27,3 +29,8 @@ module _ (rule : ℕ) (w : List ℕ) where
   pub is-rule3 : rule ≢ 1 → rule ≢ 2 → ruleOf rule w ≡ rule3 w
   unfolding ruleOf
   is-rule3 ne ne₂ = rw (ne-eqb rule 1 ne, ne-eqb rule 2 ne₂)
+
+-- The rules are numbered 1 to 3.
+pub says-rule : (rule : ℕ) → Says (isRule rule) ((1 ≤ rule) × (rule ≤ 3))
+unfolding isRule
+says-rule rule = says-and (record { to = leb-true 1 rule; of = le-leb 1 rule }) (record { to = leb-true rule 3; of = le-leb rule 3 })

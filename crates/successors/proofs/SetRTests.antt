@@ -4,28 +4,35 @@ use mathlib.Core.List.{List, _∷_}
 use mathlib.Core.Path.{_≡_, refl, sym, ap, _∙_}
 use Prim.Native.Nat.{ℕ, zero, suc, _+_, _-_, _≤_, _<_}
 use native.Mathlib.Omega.{arith}
+use native.Mathlib.Decide.{decLt}
 use native.Mathlib.Numerals.{add-one}
-use lib.Dec.{leb, ltb, eqb}
-use lib.ListN.{take}
+use lib.Dec.{leb}
+use lib.ListN.{drop}
 use borrow.Author.Tests.{leb-true, le-leb}
 use Rattle.weak_orders.specs.Rotation.{isGreatest}
 use Rattle.weak_orders.specs.Says.{Says}
-use Rattle.weak_orders.specs.Tables.{tally}
-use Rattle.weak_orders.specs.Window.{all, isHeight}
+use Rattle.weak_orders.specs.Window.{all, range, occurs, isHeight}
 use Rattle.weak_orders.proofs.HeightForm.{says-height}
-use Rattle.weak_orders.proofs.Tests.{_∈_, here, there, split-mem, not-true→false, false→not-true, says-no, says-all}
+use Rattle.weak_orders.proofs.Symbols.{says-occurs}
+use Rattle.weak_orders.proofs.Tests.{_∈_, here, there, split-mem, not-true→false, false→not-true, says-no, says-as, says-all}
 use Rattle.successors.specs.Rules.{inR, inR⁻, rule2, rule3}
 use Rattle.successors.proofs.SetR.{R, R-height, R-first, R-positive, says-zeros}
-use Rattle.successors.proofs.Tables.{says-has}
+use Rattle.successors.proofs.Scans.{in-drop-range, of-drop-range}
 
 pub says-none-above : (x : ℕ) (b : List ℕ) → Says (all (λ v. leb v x) b) ((v : ℕ) → v ∈ b → v ≤ x)
 says-none-above x b = says-all (λ v. record { to = leb-true v x; of = le-leb v x }) b
+
+-- each number from a up to x occurs in b
+pub says-from : (b : List ℕ) (a x : ℕ) → Says (all (occurs b) (drop a (range x))) ((v : ℕ) → a ≤ v → v < x → v ∈ b)
+says-from b a x = says-as (says-all (says-occurs b) (drop a (range x)))
+    (λ h v le lt. h v (in-drop-range a x v le lt))
+    (λ h v m. let (le, lt) = of-drop-range a x v m in h v le lt)
 
 and-true : (a : Bool) → a ≡ (a && true)
 and-true true = refl
 and-true false = refl
 
--- ---- the window with the first symbol x and the others b, whose table is t
+-- ---- the window with the first symbol x and the others b
 
 pub inR-zero : (x : ℕ) (b : List ℕ) → x ≡ 0 → false ≡ inR (x ∷ b)
 inR-zero x b e = rw e (sym (not-true→false (inR (0 ∷ b)) (R-positive b)))
@@ -39,23 +46,30 @@ pub inR-above : (x y : ℕ) (b : List ℕ) → all (λ v. leb v y) b ≡ false �
 inR-above x y b f le = not-true→false (inR (x ∷ b)) (λ r.
     false→not-true _ f (says-none-above y b .of (λ v m. omega (arith, R-first x b r v (there m)))))
 
-module _ (x : ℕ) (b t : List ℕ) (h : t ≡ tally b) (le : x ≤ 17) where
-  -- a smaller symbol missing
-  pub inR-gap : all (ltb 0) (take x t) ≡ false → inR (x ∷ b) ≡ false
+-- the window a b is in height form, so the symbols below a occur in b
+module _ (a x : ℕ) (b : List ℕ) (form : isHeight (a ∷ b) ≡ true) where
+  behind : (y v : ℕ) → isHeight (y ∷ b) ≡ true → v < y → v ∈ b
+  behind y v h lt = split-mem (λ e. absurd (omega arith)) (λ m. m) (says-height (y ∷ b) .to h y here v lt)
+
+  -- a symbol below x missing
+  pub inR-gap : all (occurs b) (drop a (range x)) ≡ false → inR (x ∷ b) ≡ false
   inR-gap f = not-true→false (inR (x ∷ b)) (λ r.
-      false→not-true _ f (says-has t b h x le .of (λ v lt.
-      split-mem (λ e. absurd (omega arith)) (λ m. m) (says-height (x ∷ b) .to (R-height (x ∷ b) r) x here v lt))))
+      false→not-true _ f (says-from b a x .of (λ v le lt. behind x v (R-height (x ∷ b) r) lt)))
 
   -- neither: the rotations decide
-  pub inR-greatest : 0 < x → all (λ v. leb v x) b ≡ true → all (ltb 0) (take x t) ≡ true → isGreatest (x ∷ b) (x ∷ b) ≡ inR (x ∷ b)
+  pub inR-greatest : 0 < x → all (λ v. leb v x) b ≡ true → all (occurs b) (drop a (range x)) ≡ true →
+      isGreatest (x ∷ b) (x ∷ b) ≡ inR (x ∷ b)
   unfolding inR
   inR-greatest pos top full = rw (height, says-no (says-zeros (x ∷ b)) (λ z. omega (arith, z x here))) (and-true (isGreatest (x ∷ b) (x ∷ b)))
     where
+      below : (v : ℕ) → v < x → v ∈ b
+      below v lt = elim (decLt v a) [ yes l ↦ behind a v form l | no l ↦ says-from b a x .to full v (omega arith) lt ]
+
       low : (v : ℕ) → v ∈ x ∷ b → v ≤ x
       low v m = split-mem (λ e. omega arith) (says-none-above x b .to top v) m
 
       height : isHeight (x ∷ b) ≡ true
-      height = says-height (x ∷ b) .of (λ z m v lt. there (says-has t b h x le .to full v (omega (arith, low z m))))
+      height = says-height (x ∷ b) .of (λ z m v lt. there (below v (omega (arith, low z m))))
 
 -- ---- the rules, for the window u with the first symbol x and the others b
 

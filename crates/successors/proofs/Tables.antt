@@ -97,19 +97,3 @@ largestBy-largest t l h (suc v) le = elim (ℕ-discrete (num l v) 0) [
   | no ne ↦ rw (ne-eqb (getD t v 0) 0 (λ e. ne (sym (table-num t l h v (omega arith)) ∙ e)))
       (sym (largest-here l v (num-mem l v .0 (omega (arith, ne)))))
 ]
-
--- ---- the symbols that are there
-
-pub says-has : (t l : List ℕ) → t ≡ tally l → (x : ℕ) → x ≤ 17 →
-    Says (all (ltb 0) (take x t)) ((v : ℕ) → v < x → v ∈ l)
-says-has t l h x le = says-as (says-all (says-lt 0) (take x t))
-    (λ pos v lt. num-mem l v .0 (omega (arith, table-num t l h v (omega arith), entry v lt, pos _ (getD-in (take x t) v 0 (omega (arith, size))))))
-    (λ has y m. let (v, lt, e) = in-getD 0 m in
-    let vx : v < x = omega (arith, size) in
-    omega (arith, table-num t l h v (omega arith), entry v vx, num-mem l v .1 (has v vx)))
-  where
-    size : length (take x t) ≡ x
-    size = length-take-le x t (omega (arith, ap length h, tally-length l))
-
-    entry : (v : ℕ) → v < x → getD (take x t) v 0 ≡ getD t v 0
-    entry v lt = getD-take x t v 0 lt

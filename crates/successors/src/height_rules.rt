@@ -1,14 +1,12 @@
 // Rules 2 and 3, on windows in height form.
 use crate::rotations::is_greatest;
-use weak_orders::counts;
 ghost use mathlib.Core.Bool.{true};
 ghost use mathlib.Core.List.{_∷_};
 ghost use mathlib.Core.Path.{_≡_};
 ghost use Prim.Native.Nat.{_≤_};
-ghost use lib.Dec.{leb, ltb};
+ghost use lib.Dec.{leb};
 ghost use lib.ListN.{length, take, drop};
-ghost use Rattle.weak_orders.specs.Tables.{tally};
-ghost use Rattle.weak_orders.specs.Window.{all, isHeight};
+ghost use Rattle.weak_orders.specs.Window.{all, range, occurs, isHeight};
 ghost use Rattle.successors.specs.Rules.{inR, rule2, rule3};
 
 // No symbol behind the first is larger than x.
@@ -26,14 +24,29 @@ fn none_above(w: &[u8; 16], n: usize, x: u8) -> bool
     true
 }
 
-// The table has every symbol below x.
-fn has_below(t: [u8; 18], x: usize) -> bool
-    requires { ⌜ x ≤ 18 ⌝ }
-    ensures { λ r. ⌜ r ≡ all (ltb 0) (take x t) ⌝ }
+// The symbol v occurs behind the first.
+fn occurs_behind(w: &[u8; 16], n: usize, v: u8) -> bool
+    requires { ⌜ (length (now w) ≡ 16) × (n ≤ 16) ⌝ }
+    ensures { λ r. ⌜ r ≡ occurs (drop 1 (take n (now (w .entry)))) v ⌝ }
 {
-    let mut v = 0;
+    let mut i = 1;
+    while i < n {
+        if w[i] == v {
+            return true;
+        }
+        i += 1;
+    }
+    false
+}
+
+// Every symbol from a up to x, x not included, occurs behind the first.
+fn all_behind(w: &[u8; 16], n: usize, a: u8, x: u8) -> bool
+    requires { ⌜ (length (now w) ≡ 16) × (n ≤ 16) ⌝ }
+    ensures { λ r. ⌜ r ≡ all (occurs (drop 1 (take n (now (w .entry))))) (drop a (range x)) ⌝ }
+{
+    let mut v = a;
     while v < x {
-        if t[v] == 0 {
+        if !occurs_behind(w, n, v) {
             return false;
         }
         v += 1;
@@ -41,18 +54,20 @@ fn has_below(t: [u8; 18], x: usize) -> bool
     true
 }
 
-// The window with x for its first symbol is in R; t counts the other symbols.
-fn in_r(w: [u8; 16], n: usize, t: [u8; 18], x: u8) -> bool
-    requires { ⌜ (1 ≤ n) × (n ≤ 16) × (x ≤ 17) × (t ≡ tally (drop 1 (take n w))) ⌝ }
+// The window with x for its first symbol is in R. The symbols below the window's own first symbol need no test: in a window in height
+// form they all occur behind it.
+fn in_r(w: [u8; 16], n: usize, x: u8) -> bool
+    requires { ⌜ (1 ≤ n) × (n ≤ 16) × (isHeight (take n w) ≡ true) ⌝ }
     ensures { λ r. ⌜ r ≡ inR (x ∷ drop 1 (take n w)) ⌝ }
 {
+    let a = w[0];
     if x == 0 {
         return false;
     }
     if !none_above(&w, n, x) {
         return false;
     }
-    if !has_below(t, x as usize) {
+    if !all_behind(&w, n, a, x) {
         return false;
     }
     let mut v = w;
@@ -71,15 +86,14 @@ pub(crate) fn successor2(w: [u8; 16], n: usize) -> u8
     if !none_above(&w, n, up) {
         return a;
     }
-    let t = counts(w, 1, n);
-    if in_r(w, n, t, up) {
+    if in_r(w, n, up) {
         return up;
     }
-    if !in_r(w, n, t, a) {
+    if !in_r(w, n, a) {
         return a;
     }
     let down = a - 1;
-    if in_r(w, n, t, down) {
+    if in_r(w, n, down) {
         return down - 1;
     }
     down
@@ -96,14 +110,13 @@ pub(crate) fn successor3(w: [u8; 16], n: usize) -> u8
     if !none_above(&w, n, up) {
         return a;
     }
-    let t = counts(w, 1, n);
-    if in_r(w, n, t, a) {
+    if in_r(w, n, a) {
         return a - 1;
     }
-    if !in_r(w, n, t, up) {
+    if !in_r(w, n, up) {
         return a;
     }
-    if in_r(w, n, t, top) {
+    if in_r(w, n, top) {
         return top;
     }
     up

@@ -1,7 +1,7 @@
 -- The universal cycle theorem: from any weak order of n in a rule's form, a(n) steps meet each once and end at the start.
 -- Assumes nothing.
 use mathlib.Core.List.{List}
-use mathlib.Core.Path.{_≡_, subst}
+use mathlib.Core.Path.{_∙_, _≡_}
 use Prim.Native.Nat.{ℕ, suc, zero, _≤_, _<_}
 use native.Mathlib.Omega.{arith}
 use lib.ListN.{length}
@@ -17,17 +17,14 @@ use Rattle.ranking.specs.Numbering.{Numbering}
 use Rattle.ranking.proofs.Places.{heights-numbered, ranks-numbered}
 use Rattle.successors.specs.Rules.{rule1, rule2, rule3, ruleOf, inForm, isRule, step}
 use Rattle.successors.proofs.FirstSymbol.{change, turn-change}
+use Rattle.successors.proofs.StepForm.{step-length, step-in-form}
 use Rattle.universal_cycle.specs.Round.{Tour, WeakOrder, UniversalCycle}
 use Rattle.universal_cycle.proofs.Agreeing.{same-tour}
 use Rattle.universal_cycle.proofs.Joined.{Joined, one-cycle}
 use Rattle.universal_cycle.proofs.Rings1.{joined1}
 use Rattle.universal_cycle.proofs.Rings23.{joined, joined2, joined3}
 
--- What agrees with a step is a step: the rule's change of the first symbol and a rotation by one.
-pub kept-by : {P : List ℕ → Type 0} (rule : List ℕ → ℕ) {depth : List ℕ → ℕ} {Exit : List ℕ → Type 0} {root : List ℕ} →
-    Joined P turn (change rule) depth Exit root → (w : List ℕ) → 0 < length w → P w → P (step rule w)
-kept-by {P} rule J w pos p = subst P (turn-change rule w pos) (J .ρ-in _ (J .τ-in w p))
-
+-- A step is the rule's change of the first symbol and a rotation by one, so what the two join is one cycle of steps.
 steps : (rule : List ℕ → ℕ) {P : List ℕ → Type 0} {depth : List ℕ → ℕ} {Exit : List ℕ → Type 0} {root : List ℕ} →
     Joined P turn (change rule) depth Exit root → ((w : List ℕ) → P w → 0 < length w) →
     {N : ℕ} {place : List ℕ → ℕ} {item : ℕ → List ℕ} → Numbering P N place item → (s : List ℕ) → P s → Tour P (step rule) N s
@@ -51,14 +48,8 @@ by-rule P p q s r t =
     ]
 
 -- A step of a rule keeps the weak orders in its form.
-pub step-kept : (r : ℕ) → isRule r ≡ true → (n : ℕ) → 1 ≤ n → (w : List ℕ) → WeakOrder n r w → WeakOrder n r (step (ruleOf r) w)
-unfolding ruleOf inForm
-step-kept r t zero pos = absurd (omega arith)
-step-kept r t (suc m) pos = by-rule (λ r. (w : List ℕ) → WeakOrder (suc m) r w → WeakOrder (suc m) r (step (ruleOf r) w))
-    (λ w p. kept-by rule1 (joined1 m) w (omega arith) p)
-    (λ w p. kept-by rule2 (joined2 m) w (omega arith) p)
-    (λ w p. kept-by rule3 (joined3 m) w (omega arith) p)
-    r t
+pub step-kept : (r n : ℕ) → 1 ≤ n → (w : List ℕ) → WeakOrder n r w → WeakOrder n r (step (ruleOf r) w)
+step-kept r n pos w (e, h) = (step-length (ruleOf r) w (omega arith) ∙ e, step-in-form r w (omega arith) h)
 
 -- The theorem.
 pub universal-cycle : UniversalCycle

@@ -9,12 +9,14 @@ use lib.Dec.{ltb, eqb}
 use lib.ListN.{length, take, drop}
 use lib.Seq.{take-all, take-length, length-take-le}
 use borrow.Author.Tests.{lt-ltb, le-ltb, eq-eqb, ne-eqb}
+use Rattle.successors.specs.NextSymbol.{nextSymbol}
+use Rattle.successors.specs.Rules.{inForm, isRule}
 use Rattle.weak_orders.specs.Converted.{converted}
 use Rattle.weak_orders.specs.Window.{isLength, padded}
 use Rattle.weak_orders.proofs.FormTests.{says-length}
 use Rattle.weak_orders.proofs.Padded.{take-padded}
 use Rattle.weak_orders.proofs.Tests.{by-test, says?, says-no}
-use Rattle.wko.specs.Calls.{Outcome, refusal, refuse, accept, convert, conversionTests, given}
+use Rattle.wko.specs.Calls.{Outcome, refusal, refuse, accept, convert, conversionTests, given, answerOf, nextSymbolCall}
 
 -- the tests on lengths pass, or one of them decides the call
 pub record Passed (n window out : ℕ) : Type 0 where
@@ -45,9 +47,13 @@ module _ (n window out : ℕ) where
         ]
   ]
 
-module _ (inForm : List ℕ → Bool) (f : List ℕ → List ℕ) (n : ℕ) (w out : List ℕ) where
+-- a slice of n bytes, loaded, is the window
+pub loaded : (w v : List ℕ) (n : ℕ) → length w ≡ n → n ≤ 16 → v ≡ padded (take 16 w) → take n v ≡ w
+loaded w v n e le q = rw (q, take-all 16 w (omega arith)) (take-padded w n e)
+
+module _ (form : List ℕ → Bool) (f : List ℕ → List ℕ) (n : ℕ) (w out : List ℕ) where
   -- a test that fails is the whole call's answer
-  pub refused-early : (r : ℕ) → r ≡ conversionTests n (length w) (length out) → ¬ (r ≡ 0) → (r, out) ≡ convert inForm f n w out
+  pub refused-early : (r : ℕ) → r ≡ conversionTests n (length w) (length out) → ¬ (r ≡ 0) → (r, out) ≡ convert form f n w out
   unfolding convert conversionTests refuse
   refused-early r e ne = elim (says? (says-length n)) [
     | no l ↦ let a = says-no (says-length n) l in rw (e, a)
@@ -69,15 +75,15 @@ module _ (inForm : List ℕ → Bool) (f : List ℕ → List ℕ) (n : ℕ) (w o
 
   -- and where they pass the form decides
   pub converted-call : ((v : List ℕ) → length (f v) ≡ length v) → Passed n (length w) (length out) →
-      (v : List ℕ) → v ≡ padded (take 16 w) → given (converted (isLength n && inForm (take n v)) (padded (f (take n v)))) n out ≡ convert inForm f n w out
+      (v : List ℕ) → v ≡ padded (take 16 w) → given (converted (isLength n && form (take n v)) (padded (f (take n v)))) n out ≡ convert form f n w out
   unfolding convert given converted refuse accept
   converted-call keeps p v e =
       let a = says-length n .of (p .some, p .most) in
       let b = le-ltb (length out) n (p .room) in
       let c = eq-eqb (length w) n (p .whole) in
-      let whole : take n v ≡ w = rw (e, take-all 16 w (omega (arith, p .whole, p .most))) (take-padded w n (p .whole)) in
+      let whole = loaded w v n (p .whole) (p .most) e in
       let back : take n (padded (f w)) ≡ f w = take-padded (f w) n (keeps w ∙ p .whole) in
-      by-test (inForm w)
+      by-test (form w)
       (λ t. simp (whole, a, b, c, t, back))
       (λ t. simp (whole, a, b, c, t))
 
@@ -85,3 +91,12 @@ module _ (inForm : List ℕ → Bool) (f : List ℕ → List ℕ) (n : ℕ) (w o
 pub stored : (w out after : List ℕ) (n : ℕ) → n ≤ length w →
     after ≡ take (length (take n w)) (take n w) ++ drop (length (take n w)) out → after ≡ take n w ++ drop n out
 stored w out after n le e = e ∙ rw (take-length (take n w), length-take-le n w le)
+
+-- the next symbol, once n, the rule and the length have passed
+pub next-call : (n rule : ℕ) (w v : List ℕ) → isLength n ≡ true → isRule rule ≡ true → length w ≡ n → v ≡ padded (take 16 w) →
+    answerOf (nextSymbol rule n v) ≡ nextSymbolCall n rule w
+unfolding nextSymbol nextSymbolCall
+next-call n rule w v a b e q =
+    let whole = loaded w v n e (says-length n .to a .1) q in
+    let c = eq-eqb (length w) n e in
+    by-test (inForm rule w) (λ t. simp (whole, a, b, c, t)) (λ t. simp (whole, a, b, c, t))

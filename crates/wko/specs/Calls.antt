@@ -6,7 +6,10 @@ use lib.Dec.{ltb, eqb}
 use lib.ListN.{length, take, drop}
 use Rattle.refusals.specs.Numbers.{causeNumber}
 use Rattle.refusals.specs.declared.Cause.{Cause}
-use Rattle.refusals.specs.declared.Cause.the-variants.{ShortBuffer, WindowLength, NotWeakOrder}
+use Rattle.refusals.specs.declared.Cause.the-variants.{ShortBuffer, WindowLength, RuleNumber, NotWeakOrder}
+use Rattle.successors.specs.declared.Next.{Next}
+use Rattle.successors.specs.declared.Next.the-variants.{Symbol, NotWeakOrder as NoWeakOrder}
+use Rattle.successors.specs.Rules.{ruleOf, inForm, isRule}
 use Rattle.weak_orders.specs.declared.Converted.{Converted}
 use Rattle.weak_orders.specs.Window.{isLength, isRank, isHeight, heights, ranks}
 
@@ -53,3 +56,17 @@ conversionTests n window out =
 unfoldable pub given : Converted → ℕ → List ℕ → Outcome
 unfolding refuse accept
 given c n out = cond (c .done) (accept (take n (c .window)) out) (refuse NotWeakOrder out)
+
+-- the next symbol under a rule: tests 6, 7 and 8; a symbol, or a refusal
+unfoldable pub nextSymbolCall : ℕ → ℕ → List ℕ → ℕ
+unfolding isLength isRule inForm ruleOf
+nextSymbolCall n rule w =
+    cond (not (isLength n)) (refusal WindowLength) (
+    cond (not (isRule rule)) (refusal RuleNumber) (
+    cond (not (eqb (length w) n && inForm rule w)) (refusal NotWeakOrder) (
+    ruleOf rule w)))
+
+-- what is answered for a symbol, or for none
+abbrev pub answerOf : Next → ℕ
+answerOf (Symbol s) = s
+answerOf NoWeakOrder = refusal NotWeakOrder

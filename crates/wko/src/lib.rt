@@ -6,7 +6,9 @@ ghost use Prim.Native.Nat.{_≤_};
 ghost use lib.ListN.{length, take, drop};
 ghost use Rattle.refusals.specs.declared.Cause.{Cause};
 ghost use Rattle.wko.specs.Calls.{refusal, conversionTests, given, rankToHeightCall, heightToRankCall};
+ghost use Rattle.wko.specs.Calls.{answerOf, nextSymbolCall};
 use refusals::Cause;
+use successors::Next;
 use weak_orders::Converted;
 
 // What C gets for a refusal: 256 and the table's number.
@@ -88,4 +90,37 @@ pub extern "C" fn wko_height_to_rank(n: u64, window: &[u8], out: &mut [u8]) -> u
         m,
         out,
     )
+}
+
+// The symbol that follows the window under a rule. Tested in the order 6, 7, 8.
+#[no_mangle]
+pub extern "C" fn wko_next_symbol(n: u64, rule: u64, window: &[u8]) -> u32
+    ensures { λ r. ⌜ r ≡ nextSymbolCall n rule (now (window .entry)) ⌝ }
+{
+    if n == 0 {
+        return refused(Cause::WindowLength);
+    }
+    if 16 < n {
+        return refused(Cause::WindowLength);
+    }
+    if rule == 0 {
+        return refused(Cause::RuleNumber);
+    }
+    if 3 < rule {
+        return refused(Cause::RuleNumber);
+    }
+    if window.len() as u64 != n {
+        return refused(Cause::NotWeakOrder);
+    }
+    answer(successors::next_symbol(rule as u8, weak_orders::load(window), n as usize))
+}
+
+// A symbol is its own answer.
+fn answer(next: Next) -> u32
+    ensures { λ r. ⌜ r ≡ answerOf next ⌝ }
+{
+    match next {
+        Next::Symbol(s) => s as u32,
+        Next::NotWeakOrder => refused(Cause::NotWeakOrder),
+    }
 }

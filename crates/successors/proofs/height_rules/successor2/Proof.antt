@@ -6,11 +6,11 @@ use Prim.Native.Nat.{ℕ, _+_, _-_, _≤_, _<_}
 use native.Mathlib.Omega.{arith}
 use borrow.Author.Needs.{needs}
 use borrow.Author.Tests.{not-true, not-false}
-use lib.ListN.{length, take, drop, getD}
+use lib.ListN.{take, drop, getD}
 use Rattle.weak_orders.proofs.FormTests.{height-low}
-use Rattle.weak_orders.proofs.Parts.{at-part, window-front}
 use Rattle.successors.specs.Rules.{inR}
 use Rattle.successors.proofs.SetRTests.{inR-above, inR-positive, rule2-up, rule2-stays, rule2-once, rule2-twice}
+use Rattle.successors.proofs.Windows.{InArray, parts, first-in}
 use Rattle.successors.proofs.height_rules.successor2.Statement.{statement}
 use Rattle.successors.proofs.height_rules.successor2.Tie as tie
 
@@ -21,22 +21,17 @@ head s = getD (s .args .t1) 0 0
 abbrev tail : tie.Start → List ℕ
 tail s = drop 1 (take (s .args .n) (s .args .t1))
 
-long : (s : tie.Start) → s .args .n ≤ length (s .args .t1)
-long s = let l : length (s .args .t1) ≡ 16 = search needs in omega arith
-
-parts : (s : tie.Start) → take (s .args .n) (s .args .t1) ≡ head s ∷ tail s
-parts s = window-front (s .args .t1) (s .args .n) (long s) (omega arith)
+array : (s : tie.Start) → InArray (s .args .t1) (s .args .n)
+array s = record { long = search needs; some = s .pre .0; most = s .pre .1 }
 
 low : (s : tie.Start) → head s ≤ 15
-low s =
-    let l : length (s .args .t1) ≡ 16 = search needs in
-    omega (arith, height-low (s .args .t1) (s .args .n) l (omega arith) (s .pre .2) (head s) (at-part (s .args .t1) 0 (s .args .n) (long s) 0 (omega arith) (omega arith)))
+low s = omega (arith, height-low (s .args .t1) (s .args .n) (array s .long) (s .pre .1) (s .pre .2) (head s) (first-in (array s)))
 
 -- what the tests of membership in R have shown
-up-out : (c : tie.Else2) → let s = c .before .before .before .before .before .before in inR ((head s + 1) ∷ tail s) ≡ false
+up-out : (c : tie.Else2) → let s = c .before .before .before .before .before in inR ((head s + 1) ∷ tail s) ≡ false
 up-out c = sym (c .before .in-r .ensures) ∙ c .if2 .left
 
-here-in : (c : tie.Else3) → let s = c .before .before .before .before .before .before .before .before in inR (head s ∷ tail s) ≡ true
+here-in : (c : tie.Else3) → let s = c .before .before .before .before .before .before .before in inR (head s ∷ tail s) ≡ true
 here-in c = sym (c .before .in-r2 .ensures) ∙ not-false _ (c .if3 .left)
 
 array-read-a : tie.Need-array-read-a
@@ -52,51 +47,44 @@ returns : tie.Need-returns
 returns c =
     let s = c .before .before .before in
     let larger = sym (c .before .none-above .ensures) ∙ not-true _ (c .if1 .taken) in
-    rule2-stays _ (head s) (tail s) (parts s) (inR-above (head s + 1) (head s + 1) (tail s) larger (omega arith)) (inR-above (head s) (head s + 1) (tail s) larger (omega arith))
-
-counts-requires : tie.Need-counts-requires
-counts-requires c κs = search needs
+    rule2-stays _ (head s) (tail s) (parts (array s))
+    (inR-above (head s + 1) (head s + 1) (tail s) larger (omega arith))
+    (inR-above (head s) (head s + 1) (tail s) larger (omega arith))
 
 in-r-requires : tie.Need-in-r-requires
-in-r-requires c κs =
-    let s = c .before .before .before .before in
-    (s .pre .0, s .pre .1, omega (arith, low s), c .counts .ensures)
+in-r-requires c κs = search needs
 
 returns-2 : tie.Need-returns-2
-returns-2 c = let s = c .before .before .before .before .before .before in rule2-up _ (head s) (tail s) (parts s) (sym (c .before .in-r .ensures) ∙ c .if2 .taken)
+returns-2 c =
+    let s = c .before .before .before .before .before in
+    rule2-up _ (head s) (tail s) (parts (array s)) (sym (c .before .in-r .ensures) ∙ c .if2 .taken)
 
 in-r-requires-2 : tie.Need-in-r-requires-2
-in-r-requires-2 c κs =
-    let s = c .before .before .before .before .before .before in
-    (s .pre .0, s .pre .1, omega (arith, low s), c .before .before .counts .ensures)
+in-r-requires-2 c κs = search needs
 
 returns-3 : tie.Need-returns-3
 returns-3 c =
-    let s = c .before .before .before .before .before .before .before .before in
-    rule2-stays _ (head s) (tail s) (parts s) (up-out (c .before .before)) (sym (c .before .in-r2 .ensures) ∙ not-true _ (c .if3 .taken))
+    let s = c .before .before .before .before .before .before .before in
+    rule2-stays _ (head s) (tail s) (parts (array s)) (up-out (c .before .before)) (sym (c .before .in-r2 .ensures) ∙ not-true _ (c .if3 .taken))
 
 sub-down : tie.Need-sub-down
-sub-down c = let s = c .before .before .before .before .before .before .before .before in inR-positive (head s) (tail s) (here-in c)
+sub-down c = let s = c .before .before .before .before .before .before .before in inR-positive (head s) (tail s) (here-in c)
 
 in-r-requires-3 : tie.Need-in-r-requires-3
-in-r-requires-3 c κs =
-    let s = c .before .before .before .before .before .before .before .before in
-    (s .pre .0, s .pre .1, omega (arith, low s), c .before .before .before .before .counts .ensures)
+in-r-requires-3 c κs = search needs
 
 sub-result : tie.Need-sub-result
-sub-result c =
-    let s = c .before .before .before .before .before .before .before .before .before .before in
-    inR-positive (head s - 1) (tail s) (sym (c .before .in-r3 .ensures) ∙ c .if4 .taken)
+sub-result c = let s = c .before .before .before .before .before .before .before .before .before in inR-positive (head s - 1) (tail s) (sym (c .before .in-r3 .ensures) ∙ c .if4 .taken)
 
 returns-4 : tie.Need-returns-4
 returns-4 c =
-    let s = c .before .before .before .before .before .before .before .before .before .before in
-    rule2-twice _ (head s) (tail s) (parts s) (up-out (c .before .before .before .before)) (here-in (c .before .before)) (sym (c .before .in-r3 .ensures) ∙ c .if4 .taken)
+    let s = c .before .before .before .before .before .before .before .before .before in
+    rule2-twice _ (head s) (tail s) (parts (array s)) (up-out (c .before .before .before .before)) (here-in (c .before .before)) (sym (c .before .in-r3 .ensures) ∙ c .if4 .taken)
 
 returns-5 : tie.Need-returns-5
 returns-5 c =
-    let s = c .before .before .before .before .before .before .before .before .before .before in
-    rule2-once _ (head s) (tail s) (parts s) (up-out (c .before .before .before .before)) (here-in (c .before .before)) (sym (c .before .in-r3 .ensures) ∙ c .if4 .left)
+    let s = c .before .before .before .before .before .before .before .before .before in
+    rule2-once _ (head s) (tail s) (parts (array s)) (up-out (c .before .before .before .before)) (here-in (c .before .before)) (sym (c .before .in-r3 .ensures) ∙ c .if4 .left)
 
 pub successor2-spec : {M : Type 1} → statement M
 successor2-spec =
@@ -106,7 +94,6 @@ successor2-spec =
     add-up
     none-above-requires
     returns
-    counts-requires
     in-r-requires
     returns-2
     in-r-requires-2

@@ -6,11 +6,11 @@ use Prim.Native.Nat.{ℕ, _+_, _-_, _≤_, _<_}
 use native.Mathlib.Omega.{arith}
 use borrow.Author.Needs.{needs}
 use borrow.Author.Tests.{not-true, not-false}
-use lib.ListN.{length, take, drop, getD}
+use lib.ListN.{take, drop, getD}
 use Rattle.weak_orders.proofs.FormTests.{height-low}
-use Rattle.weak_orders.proofs.Parts.{at-part, window-front}
 use Rattle.successors.specs.Rules.{inR}
 use Rattle.successors.proofs.SetRTests.{inR-above, inR-positive, rule3-down, rule3-stays, rule3-once, rule3-twice}
+use Rattle.successors.proofs.Windows.{InArray, parts, first-in}
 use Rattle.successors.proofs.height_rules.successor3.Statement.{statement}
 use Rattle.successors.proofs.height_rules.successor3.Tie as tie
 
@@ -21,22 +21,17 @@ head s = getD (s .args .t1) 0 0
 abbrev tail : tie.Start → List ℕ
 tail s = drop 1 (take (s .args .n) (s .args .t1))
 
-long : (s : tie.Start) → s .args .n ≤ length (s .args .t1)
-long s = let l : length (s .args .t1) ≡ 16 = search needs in omega arith
-
-parts : (s : tie.Start) → take (s .args .n) (s .args .t1) ≡ head s ∷ tail s
-parts s = window-front (s .args .t1) (s .args .n) (long s) (omega arith)
+array : (s : tie.Start) → InArray (s .args .t1) (s .args .n)
+array s = record { long = search needs; some = s .pre .0; most = s .pre .1 }
 
 low : (s : tie.Start) → head s ≤ 15
-low s =
-    let l : length (s .args .t1) ≡ 16 = search needs in
-    omega (arith, height-low (s .args .t1) (s .args .n) l (omega arith) (s .pre .2) (head s) (at-part (s .args .t1) 0 (s .args .n) (long s) 0 (omega arith) (omega arith)))
+low s = omega (arith, height-low (s .args .t1) (s .args .n) (array s .long) (s .pre .1) (s .pre .2) (head s) (first-in (array s)))
 
 -- what the tests of membership in R have shown
-here-out : (c : tie.Else2) → let s = c .before .before .before .before .before .before in inR (head s ∷ tail s) ≡ false
+here-out : (c : tie.Else2) → let s = c .before .before .before .before .before in inR (head s ∷ tail s) ≡ false
 here-out c = sym (c .before .in-r .ensures) ∙ c .if2 .left
 
-up-in : (c : tie.Else3) → let s = c .before .before .before .before .before .before .before .before in inR ((head s + 1) ∷ tail s) ≡ true
+up-in : (c : tie.Else3) → let s = c .before .before .before .before .before .before .before in inR ((head s + 1) ∷ tail s) ≡ true
 up-in c = sym (c .before .in-r2 .ensures) ∙ not-false _ (c .if3 .left)
 
 array-read-a : tie.Need-array-read-a
@@ -55,46 +50,41 @@ returns : tie.Need-returns
 returns c =
     let s = c .before .before .before in
     let larger = sym (c .before .none-above .ensures) ∙ not-true _ (c .if1 .taken) in
-    rule3-stays _ (head s) (tail s) (parts s) (inR-above (head s) (head s + 1) (tail s) larger (omega arith)) (inR-above (head s + 1) (head s + 1) (tail s) larger (omega arith))
-
-counts-requires : tie.Need-counts-requires
-counts-requires c κs = search needs
+    rule3-stays _ (head s) (tail s) (parts (array s))
+    (inR-above (head s) (head s + 1) (tail s) larger (omega arith))
+    (inR-above (head s + 1) (head s + 1) (tail s) larger (omega arith))
 
 in-r-requires : tie.Need-in-r-requires
-in-r-requires c κs =
-    let s = c .before .before .before .before in
-    (s .pre .0, s .pre .1, omega (arith, low s), c .counts .ensures)
+in-r-requires c κs = search needs
 
 sub-result : tie.Need-sub-result
-sub-result c = let s = c .before .before .before .before .before .before in inR-positive (head s) (tail s) (sym (c .before .in-r .ensures) ∙ c .if2 .taken)
+sub-result c = let s = c .before .before .before .before .before in inR-positive (head s) (tail s) (sym (c .before .in-r .ensures) ∙ c .if2 .taken)
 
 returns-2 : tie.Need-returns-2
-returns-2 c = let s = c .before .before .before .before .before .before in rule3-down _ (head s) (tail s) (parts s) (sym (c .before .in-r .ensures) ∙ c .if2 .taken)
+returns-2 c =
+    let s = c .before .before .before .before .before in
+    rule3-down _ (head s) (tail s) (parts (array s)) (sym (c .before .in-r .ensures) ∙ c .if2 .taken)
 
 in-r-requires-2 : tie.Need-in-r-requires-2
-in-r-requires-2 c κs =
-    let s = c .before .before .before .before .before .before in
-    (s .pre .0, s .pre .1, omega (arith, low s), c .before .before .counts .ensures)
+in-r-requires-2 c κs = search needs
 
 returns-3 : tie.Need-returns-3
 returns-3 c =
-    let s = c .before .before .before .before .before .before .before .before in
-    rule3-stays _ (head s) (tail s) (parts s) (here-out (c .before .before)) (sym (c .before .in-r2 .ensures) ∙ not-true _ (c .if3 .taken))
+    let s = c .before .before .before .before .before .before .before in
+    rule3-stays _ (head s) (tail s) (parts (array s)) (here-out (c .before .before)) (sym (c .before .in-r2 .ensures) ∙ not-true _ (c .if3 .taken))
 
 in-r-requires-3 : tie.Need-in-r-requires-3
-in-r-requires-3 c κs =
-    let s = c .before .before .before .before .before .before .before .before in
-    (s .pre .0, s .pre .1, omega (arith, low s), c .before .before .before .before .counts .ensures)
+in-r-requires-3 c κs = search needs
 
 returns-4 : tie.Need-returns-4
 returns-4 c =
-    let s = c .before .before .before .before .before .before .before .before .before .before in
-    rule3-twice _ (head s) (tail s) (parts s) (here-out (c .before .before .before .before)) (up-in (c .before .before)) (sym (c .before .in-r3 .ensures) ∙ c .if4 .taken)
+    let s = c .before .before .before .before .before .before .before .before .before in
+    rule3-twice _ (head s) (tail s) (parts (array s)) (here-out (c .before .before .before .before)) (up-in (c .before .before)) (sym (c .before .in-r3 .ensures) ∙ c .if4 .taken)
 
 returns-5 : tie.Need-returns-5
 returns-5 c =
-    let s = c .before .before .before .before .before .before .before .before .before .before in
-    rule3-once _ (head s) (tail s) (parts s) (here-out (c .before .before .before .before)) (up-in (c .before .before)) (sym (c .before .in-r3 .ensures) ∙ c .if4 .left)
+    let s = c .before .before .before .before .before .before .before .before .before in
+    rule3-once _ (head s) (tail s) (parts (array s)) (here-out (c .before .before .before .before)) (up-in (c .before .before)) (sym (c .before .in-r3 .ensures) ∙ c .if4 .left)
 
 pub successor3-spec : {M : Type 1} → statement M
 successor3-spec =
@@ -105,7 +95,6 @@ successor3-spec =
     add-top
     none-above-requires
     returns
-    counts-requires
     in-r-requires
     sub-result
     returns-2

@@ -1,19 +1,15 @@
 -- `is_case4` is case 4 of rule 1: each return is one of its conditions. Assumes nothing.
-use mathlib.Core.Logic.{_≢_}
 use mathlib.Core.List.{List, _∷_}
 use mathlib.Core.Path.{_≡_, sym, ap, _∙_}
-use Prim.Native.Nat.{ℕ, _+_, _-_, _≤_, _<_}
+use Prim.Native.Nat.{ℕ, _-_, _≤_, _<_}
 use native.Mathlib.Omega.{arith}
 use borrow.Author.Needs.{needs}
-use borrow.Author.Tests.{not-true, not-false}
 use lib.ListN.{length, take, drop, getD}
-use lib.Seq.{length-take-le}
 use Rattle.weak_orders.specs.Rotation.{start}
 use Rattle.weak_orders.specs.Window.{num}
-use Rattle.weak_orders.proofs.Parts.{at-part, window-front, window-set}
 use Rattle.successors.proofs.Rule1Cases.{case4-low, case4-many, case4-one, case4-clear, case4-scan}
 use Rattle.successors.proofs.Tables.{table-num}
-use Rattle.successors.proofs.Windows.{low-front, start-bounds}
+use Rattle.successors.proofs.Windows.{InArray, size, parts, first-in, with-first, low-front, start-bounds}
 use Rattle.successors.proofs.rank_rule.is_case4.Statement.{statement}
 use Rattle.successors.proofs.rank_rule.is_case4.Tie as tie
 
@@ -27,41 +23,32 @@ head s = getD (s .args .t1) 0 0
 abbrev tail : tie.Start → List ℕ
 tail s = drop 1 (window s)
 
-long : (s : tie.Start) → s .args .n ≤ length (s .args .t1)
-long s = let l : length (s .args .t1) ≡ 16 = search needs in omega arith
-
-size : (s : tie.Start) → length (window s) ≡ s .args .n
-size s = length-take-le (s .args .n) (s .args .t1) (long s)
-
-parts : (s : tie.Start) → window s ≡ head s ∷ tail s
-parts s = window-front (s .args .t1) (s .args .n) (long s) (omega arith)
+array : (s : tie.Start) → InArray (s .args .t1) (s .args .n)
+array s = record { long = search needs; some = s .pre .0; most = s .pre .1 }
 
 low : (s : tie.Start) → head s ≤ 16
-low s = s .pre .2 (head s) (at-part (s .args .t1) 0 (s .args .n) (long s) 0 (omega arith) (omega arith))
+low s = s .pre .2 (head s) (first-in (array s))
 
 -- the table has how often the first symbol occurs
 often : (s : tie.Start) → getD (s .args .t3) (head s) 0 ≡ num (window s) (head s)
 often s = table-num (s .args .t3) (window s) (s .pre .3) (head s) (low s)
 
 -- the search goes through the rotations of the window with p first
-starts : (c : tie.After-least-rotation) →
-    let s = c .before .before .before .before in
-    c .least-rotation .result .start ≡ start (s .args .p ∷ tail s)
-starts c =
-    let s = c .before .before .before .before in
-    c .least-rotation .ensures ∙ ap start (window-set (s .args .t1) (s .args .n) (s .args .p) (omega arith) (long s))
+starts : (c : tie.After-least-rotation) → let s = c .before .before .before .before in c .least-rotation .result .start ≡ start (s .args .p ∷ tail s)
+starts c = let s = c .before .before .before .before in c .least-rotation .ensures ∙ ap start (with-first (array s) (s .args .p))
 
-bounds : (c : tie.After-least-rotation) → (1 ≤ c .least-rotation .result .start) × (c .least-rotation .result .start ≤ c .before .before .before .before .args .n)
+bounds : (c : tie.After-least-rotation) →
+    (1 ≤ c .least-rotation .result .start) × (c .least-rotation .result .start ≤ c .before .before .before .before .args .n)
 bounds c =
     let s = c .before .before .before .before in
-    let same : length (s .args .p ∷ tail s) ≡ s .args .n = ap length (sym (parts s)) ∙ size s in
+    let same : length (s .args .p ∷ tail s) ≡ s .args .n = ap length (sym (parts (array s))) ∙ size (array s) in
     omega (arith, starts c, start-bounds (s .args .p ∷ tail s) (omega arith), same)
 
 array-read-a : tie.Need-array-read-a
 array-read-a c = search needs
 
 returns : tie.Need-returns
-returns c = let s = c .before in case4-low (window s) (head s) (tail s) (parts s) (s .args .p) (c .if1 .taken)
+returns c = let s = c .before in case4-low (window s) (head s) (tail s) (parts (array s)) (s .args .p) (c .if1 .taken)
 
 cast-if2 : tie.Need-cast-if2
 cast-if2 c = search needs
@@ -73,10 +60,10 @@ returns-2 : tie.Need-returns-2
 returns-2 c =
     let s = c .before .before in
     let ne = c .if2 .taken in
-    case4-many (window s) (head s) (tail s) (parts s) (s .args .p) (λ e. ne (often s ∙ e))
+    case4-many (window s) (head s) (tail s) (parts (array s)) (s .args .p) (λ e. ne (often s ∙ e))
 
 returns-3 : tie.Need-returns-3
-returns-3 c = let s = c .before .before .before in case4-one (window s) (head s) (tail s) (parts s) (s .args .p) (c .if3 .taken)
+returns-3 c = let s = c .before .before .before in case4-one (window s) (head s) (tail s) (parts (array s)) (s .args .p) (c .if3 .taken)
 
 cast-v : tie.Need-cast-v
 cast-v c = search needs
@@ -105,9 +92,11 @@ returns-4 c =
     let q = c .before .before in
     let k = q .least-rotation .result .start in
     let p = s .args .p in
+    let ne = q .before .if3 .left in
+    let once = sym (often s) ∙ q .before .before .if2 .left in
     c .all-single .ensures
-    ∙ case4-scan (s .args .t1) (s .args .t3) (s .args .n) (s .pre .2) (s .pre .3) p k (start (p ∷ tail s)) (s .pre .4) (q .before .if3 .left) (starts q) (omega (arith, bounds q))
-    ∙ case4-clear (window s) (head s) (tail s) (parts s) p (omega arith) (sym (often s) ∙ q .before .before .if2 .left) (q .before .if3 .left)
+    ∙ case4-scan (s .args .t1) (s .args .t3) (s .args .n) (s .pre .2) (s .pre .3) p k _ (s .pre .4) ne (starts q) (omega (arith, bounds q))
+    ∙ case4-clear (window s) (head s) (tail s) (parts (array s)) p (omega arith) once ne
 
 pub is-case4-spec : {M : Type 1} → statement M
 is-case4-spec =

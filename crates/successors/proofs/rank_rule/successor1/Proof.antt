@@ -1,22 +1,20 @@
 -- `successor1` is rule 1: each return is the case of the definition that applies. Assumes nothing.
 use mathlib.Core.Bool.{false, cond, _&&_}
-use mathlib.Core.List.{List, _∷_}
-use mathlib.Core.Path.{_≡_, refl, sym, ap, _∙_}
+use mathlib.Core.List.{List}
+use mathlib.Core.Path.{_≡_, refl, sym, _∙_}
 use Prim.Native.Nat.{ℕ, _+_, _-_, _≤_, _<_}
 use native.Mathlib.Omega.{arith}
 use borrow.Author.Needs.{needs}
 use lib.Dec.{eqb}
-use lib.ListN.{length, take, drop, getD}
-use lib.Seq.{length-take-le}
+use lib.ListN.{take, drop, getD}
 use Rattle.weak_orders.specs.Window.{num}
 use Rattle.weak_orders.proofs.FormTests.{rank-low}
-use Rattle.weak_orders.proofs.Parts.{window-front}
 use Rattle.weak_orders.proofs.Symbols.{num-le-length, num-mem}
-use Rattle.weak_orders.proofs.Tests.{_∈_, here}
 use Rattle.successors.specs.ByTable.{Low}
 use Rattle.successors.specs.Rules.{isPlain, largestBelow, case3, case4, rule1}
 use Rattle.successors.proofs.Rule1Cases.{rule1-chain, plain-scan}
 use Rattle.successors.proofs.Tables.{table-num, largest-le, largestBy-largest}
+use Rattle.successors.proofs.Windows.{InArray, size, parts, first-in}
 use Rattle.successors.proofs.rank_rule.successor1.Statement.{statement}
 use Rattle.successors.proofs.rank_rule.successor1.Tie as tie
 
@@ -30,23 +28,14 @@ head s = getD (s .args .t1) 0 0
 abbrev tail : tie.Start → List ℕ
 tail s = drop 1 (window s)
 
-long : (s : tie.Start) → length (s .args .t1) ≡ 16
-long s = search needs
-
-size : (s : tie.Start) → length (window s) ≡ s .args .n
-size s = length-take-le (s .args .n) (s .args .t1) (omega (arith, long s))
-
-parts : (s : tie.Start) → window s ≡ head s ∷ tail s
-parts s = window-front (s .args .t1) (s .args .n) (omega (arith, long s)) (omega arith)
+array : (s : tie.Start) → InArray (s .args .t1) (s .args .n)
+array s = record { long = search needs; some = s .pre .0; most = s .pre .1 }
 
 low : (s : tie.Start) → Low (window s)
-low s = rank-low (s .args .t1) (s .args .n) (long s) (omega arith) (s .pre .2)
-
-head-in : (s : tie.Start) → head s ∈ window s
-head-in s = rw (parts s) here
+low s = rank-low (s .args .t1) (s .args .n) (array s .long) (s .pre .1) (s .pre .2)
 
 head-low : (s : tie.Start) → head s ≤ 16
-head-low s = low s (head s) (head-in s)
+head-low s = low s (head s) (first-in (array s))
 
 -- the table has how often a symbol occurs, which is at most n
 module _ (c : tie.After-counts) where
@@ -54,7 +43,7 @@ module _ (c : tie.After-counts) where
   often v le = table-num (c .counts .result) (window (c .before)) (c .counts .ensures) v le
 
   often-le : (v : ℕ) → v ≤ 16 → getD (c .counts .result) v 0 ≤ 16
-  often-le v le = omega (arith, often v le, num-le-length (window (c .before)) v, size (c .before))
+  often-le v le = omega (arith, often v le, num-le-length (window (c .before)) v, size (array (c .before)))
 
 is-plain : (c : tie.After-all-single) → c .all-single .result ≡ isPlain (window (c .before .before))
 is-plain c =
@@ -73,18 +62,18 @@ chain : (c : tie.After-all-single) (p : ℕ) →
 chain c p e =
     let s = c .before .before in
     let ones = getD (c .before .counts .result) 1 0 in
-    rule1-chain (window s) (head s) (tail s) (parts s) ones p (c .all-single .result) (is-plain c) (often (c .before) 1 (omega arith)) e
+    rule1-chain (window s) (head s) (tail s) (parts (array s)) ones p (c .all-single .result) (is-plain c) (often (c .before) 1 (omega arith)) e
 
-is-case3-out : (c : tie.Else3) → let s = c .before .before .before .before .before .before in case3 (head s) (tail s) ≡ false
-is-case3-out c = sym (c .before .is-case3 .ensures) ∙ c .if3 .left
+not-case3 : (c : tie.Else3) → let s = c .before .before .before .before .before .before in case3 (head s) (tail s) ≡ false
+not-case3 c = sym (c .before .is-case3 .ensures) ∙ c .if3 .left
 
 is-largest : (c : tie.After-largest-below) →
     let s = c .before .before .before .before .before .before .before in
     c .largest-below .result ≡ largestBelow (window s) (head s)
 is-largest c =
     let p = c .before .before .before .before .before .before in
-    c .largest-below .ensures
-    ∙ largestBy-largest (p .counts .result) (window (p .before)) (p .counts .ensures) (head (p .before)) (omega (arith, head-low (p .before)))
+    let s = p .before in
+    c .largest-below .ensures ∙ largestBy-largest (p .counts .result) (window s) (p .counts .ensures) (head s) (omega (arith, head-low s))
 
 largest-low : (c : tie.After-largest-below) → c .largest-below .result ≤ 16
 largest-low c =
@@ -133,14 +122,14 @@ sub-result : tie.Need-sub-result
 sub-result c =
     let p = c .before .before .before .before .before in
     let s = p .before in
-    omega (arith, often p (head s) (head-low s), num-mem (window s) (head s) .1 (head-in s))
+    omega (arith, often p (head s) (head-low s), num-mem (window s) (head s) .1 (first-in (array s)))
 
 returns-3 : tie.Need-returns-3
 returns-3 c =
     let p = c .before .before .before .before in
     let s = p .before .before in
-    sym (chain p _ refl
-    ∙ rw (c .before .before .before .if1 .left, c .before .before .if2 .left, sym (c .before .is-case3 .ensures) ∙ c .if3 .taken, often (p .before) (head s) (head-low s)))
+    let taken = sym (c .before .is-case3 .ensures) ∙ c .if3 .taken in
+    sym (chain p _ refl ∙ rw (c .before .before .before .if1 .left, c .before .before .if2 .left, taken, often (p .before) (head s) (head-low s)))
 
 cast-largest-below : tie.Need-cast-largest-below
 cast-largest-below c = search needs
@@ -160,14 +149,16 @@ cast-result-2 c = record { fits = omega (arith, largest-low (c .before .before))
 returns-4 : tie.Need-returns-4
 returns-4 c =
     let q = c .before .before in
+    let taken = sym (c .before .is-case4 .ensures) ∙ c .if4 .taken in
     sym (chain (c .before .before .before .before .before .before .before) (q .largest-below .result) (is-largest q)
-    ∙ rw (c .before .before .before .before .before .before .if1 .left, c .before .before .before .before .before .if2 .left, is-case3-out (q .before), sym (c .before .is-case4 .ensures) ∙ c .if4 .taken))
+    ∙ rw (c .before .before .before .before .before .before .if1 .left, c .before .before .before .before .before .if2 .left, not-case3 (q .before), taken))
 
 returns-5 : tie.Need-returns-5
 returns-5 c =
     let q = c .before .before in
+    let left = sym (c .before .is-case4 .ensures) ∙ c .if4 .left in
     sym (chain (c .before .before .before .before .before .before .before) (q .largest-below .result) (is-largest q)
-    ∙ rw (c .before .before .before .before .before .before .if1 .left, c .before .before .before .before .before .if2 .left, is-case3-out (q .before), sym (c .before .is-case4 .ensures) ∙ c .if4 .left))
+    ∙ rw (c .before .before .before .before .before .before .if1 .left, c .before .before .before .before .before .if2 .left, not-case3 (q .before), left))
 
 pub successor1-spec : {M : Type 1} → statement M
 successor1-spec =

@@ -1,0 +1,116 @@
+/* The source paper's algorithms in plain C: Algorithm 1 and the rules g and g' of section 4, least rotation in O(n) (Booth / Shiloach),
+ * counts in a table filled once for a window. */
+#include "baseline.h"
+#include <string.h>
+
+/* The least index at which the least rotation of w starts, counted from 0, by two pointers; `sign` is 1 for least, -1 for greatest. */
+static int extreme_rotation(const uint8_t *w, int n, int sign)
+{
+    int i = 0, j = 1, k = 0;
+    while (i < n && j < n && k < n) {
+        int a = i + k, b = j + k;
+        int d = w[a < n ? a : a - n] - w[b < n ? b : b - n];
+        if (d == 0) {
+            k++;
+            continue;
+        }
+        if (d * sign > 0)
+            i += k + 1;
+        else
+            j += k + 1;
+        if (i == j)
+            j++;
+        k = 0;
+    }
+    return i < j ? i : j;
+}
+
+static int is_single(const uint8_t *counts, int v)
+{
+    return v == 1 || counts[v] == 1;
+}
+
+static int rule1(const uint8_t *w, int n)
+{
+    uint8_t counts[18] = {0}, q[16];
+    int plain = 1, x = w[0];
+    for (int i = 0; i < n; i++)
+        counts[w[i]]++;
+    for (int i = 0; i < n && plain; i++)
+        plain = is_single(counts, w[i]);
+    if (plain && x == counts[1] + 1)
+        return 1;
+    if (plain && x == 1)
+        return counts[1];
+    if (x > 1 && counts[x] > 1) {
+        int t = extreme_rotation(w, n, 1);
+        for (int i = 1; i < t; i++)
+            if (!is_single(counts, w[i]))
+                return x;
+        return x + counts[x] - 1;
+    }
+    if (x > 1) {
+        int p = x - 1, t;
+        while (counts[p] == 0)
+            p--;
+        if (p == 1)
+            return x;
+        memcpy(q, w, (size_t)n);
+        q[0] = (uint8_t)p;
+        t = extreme_rotation(q, n, 1);
+        for (int i = 1; i < t; i++)
+            if (w[i] == p || !is_single(counts, w[i]))
+                return x;
+        return p;
+    }
+    return x;
+}
+
+/* x before the rest of w is in R; counts are those of the rest. */
+static int in_r(uint8_t *w, int n, const uint8_t *counts, int largest, int x)
+{
+    int first = w[0], found;
+    if (x <= 0 || largest > x)
+        return 0;
+    for (int v = 0; v < x; v++)
+        if (counts[v] == 0)
+            return 0;
+    w[0] = (uint8_t)x;
+    found = extreme_rotation(w, n, -1) == 0;
+    w[0] = (uint8_t)first;
+    return found;
+}
+
+static int height_rule(int rule, uint8_t *w, int n)
+{
+    uint8_t counts[19] = {0};
+    int x = w[0], largest = 0;
+    for (int i = 1; i < n; i++) {
+        counts[w[i]]++;
+        if (w[i] > largest)
+            largest = w[i];
+    }
+    if (largest > x + 1)
+        return x;
+    if (rule == 2) {
+        if (in_r(w, n, counts, largest, x + 1))
+            return x + 1;
+        if (!in_r(w, n, counts, largest, x))
+            return x;
+        return in_r(w, n, counts, largest, x - 1) ? x - 2 : x - 1;
+    }
+    if (in_r(w, n, counts, largest, x))
+        return x - 1;
+    if (!in_r(w, n, counts, largest, x + 1))
+        return x;
+    return in_r(w, n, counts, largest, x + 2) ? x + 2 : x + 1;
+}
+
+void baseline_walk(int rule, uint8_t *w, int n, uint64_t steps)
+{
+    for (uint64_t k = 0; k < steps; k++) {
+        int s = rule == 1 ? rule1(w, n) : height_rule(rule, w, n);
+        memmove(w, w + 1, (size_t)(n - 1));
+        w[n - 1] = (uint8_t)s;
+    }
+}

@@ -1,0 +1,68 @@
+-- `ranking::sum_below` meets its contract. The loop's invariant: the total is the sum of the counts passed. Assumes nothing.
+use mathlib.Core.Path.{_≡_, refl, sym, ap, _∙_}
+use Prim.Native.Nat.{ℕ, suc, _+_, _≤_, _-_, _<_}
+use native.Mathlib.Numerals.{add-one}
+use native.Mathlib.Omega.{arith}
+use lib.ListN.{getD}
+use Rattle.ranking.specs.Counts.{sum}
+use Rattle.ranking.proofs.Sums.{sum-suc, sum-mono, sum-more}
+use borrow.Author.Needs.{needs}
+use Rattle.ranking.proofs.sum_below.Statement.{statement}
+use Rattle.ranking.proofs.sum_below.Tie as tie
+use Rattle.ranking.proofs.sum_below.Reads as reads
+use Rattle.ranking.proofs.sum_below.Lts as lts
+
+abbrev Inv-loop : tie.InvT-loop
+Inv-loop v counts total₀ u₀ total u = (u ≤ v) × (total ≡ sum (λ u. getD counts u 0) u)
+
+abbrev μ-loop : tie.MeasureT-loop
+μ-loop v counts total₀ u₀ total u = v - u
+
+loop-holds : tie.Need-loop-holds Inv-loop μ-loop
+unfolding sum
+loop-holds c = (search needs, refl)
+
+mul-total : tie.Need-mul-total Inv-loop μ-loop
+mul-total c = search needs
+
+array-read-total : tie.Need-array-read-total Inv-loop μ-loop
+array-read-total c = search needs
+
+add-total : tie.Need-add-total Inv-loop μ-loop
+add-total c =
+    let f : ℕ → ℕ = λ u. getD (c .before .before .args .t1) u 0 in
+    let u = c .before .loop .u in
+    let v = c .before .before .args .v in
+    record { fits = omega (arith, c .before .loop .inv .1, sum-more f u, sum-mono f (u + 1) v (omega arith), c .before .before .pre .1) }
+
+add-u : tie.Need-add-u Inv-loop μ-loop
+add-u c = search needs
+
+loop-less : tie.Need-loop-less Inv-loop μ-loop
+loop-less c = search needs
+
+loop-again : tie.Need-loop-again Inv-loop μ-loop
+loop-again c =
+    let f : ℕ → ℕ = λ u. getD (c .before .before .args .t1) u 0 in
+    (search needs, omega (arith, c .before .loop .inv .1, sum-more f (c .before .loop .u)))
+
+returns : tie.Need-returns Inv-loop μ-loop
+returns c =
+    let a = c .before .before .args in
+    let e : c .before .loop .u ≡ a .v = omega arith in
+    c .before .loop .inv .1 ∙ ap (sum (λ u. getD (a .t1) u 0)) e
+
+pub sum-below-spec : {M : Type 1} → statement M
+sum-below-spec =
+    tie.close
+    (tie.spec
+    Inv-loop
+    μ-loop
+    loop-holds
+    mul-total
+    array-read-total
+    add-total
+    add-u
+    loop-less
+    loop-again
+    returns)

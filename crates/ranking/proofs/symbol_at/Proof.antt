@@ -1,0 +1,77 @@
+-- `ranking::symbol_at` meets its contract. The loop's invariant: the counts passed and the rest add up to the place. Assumes nothing.
+use mathlib.Core.Path.{_≡_, refl, sym, ap, _∙_}
+use Prim.Native.Nat.{ℕ, suc, _+_, _≤_, _-_, _<_}
+use native.Mathlib.Omega.{arith}
+use lib.ListN.{getD}
+use Rattle.ranking.specs.Counts.{sum}
+use Rattle.ranking.proofs.Sums.{sum-zero, sum-more, sum-before}
+use borrow.Author.Needs.{needs}
+use Rattle.ranking.proofs.symbol_at.Statement.{statement}
+use Rattle.ranking.proofs.symbol_at.Tie as tie
+use Rattle.ranking.proofs.symbol_at.Reads as reads
+use Rattle.ranking.proofs.symbol_at.Lts as lts
+
+abbrev Inv-loop : tie.InvT-loop
+Inv-loop n left counts rest₀ v₀ rest v = (v < n) × (sum (λ u. getD counts u 0) v + rest ≡ left)
+
+abbrev μ-loop : tie.MeasureT-loop
+μ-loop n left counts rest₀ v₀ rest v = n - v
+
+loop-holds : tie.Need-loop-holds Inv-loop μ-loop
+loop-holds c =
+    let f : ℕ → ℕ = λ u. getD (c .args .t1) u 0 in
+    let z = sum-zero f in
+    (sum-before f 0 (c .args .n) (c .args .left) (omega arith) (c .pre .1), omega arith)
+
+mul-loop : tie.Need-mul-loop Inv-loop μ-loop
+mul-loop c = search needs
+
+array-read-loop : tie.Need-array-read-loop Inv-loop μ-loop
+array-read-loop c = search needs
+
+mul-rest : tie.Need-mul-rest Inv-loop μ-loop
+mul-rest c = search needs
+
+array-read-rest : tie.Need-array-read-rest Inv-loop μ-loop
+array-read-rest c = search needs
+
+sub-rest : tie.Need-sub-rest Inv-loop μ-loop
+sub-rest c = search needs
+
+add-v : tie.Need-add-v Inv-loop μ-loop
+add-v c = search needs
+
+loop-less : tie.Need-loop-less Inv-loop μ-loop
+loop-less c = search needs
+
+loop-again : tie.Need-loop-again Inv-loop μ-loop
+loop-again c =
+    let a = c .before .before .args in
+    let f : ℕ → ℕ = λ u. getD (a .t1) u 0 in
+    let v = c .before .loop .v in
+    let e : sum f (v + 1) + (c .before .loop .rest - f v) ≡ a .left = omega (arith, sum-more f v, c .before .loop .inv .1) in
+    (sum-before f (v + 1) (a .n) (a .left) (omega arith) (c .before .before .pre .1), e)
+
+cast-t14 : tie.Need-cast-t14 Inv-loop μ-loop
+cast-t14 c = search needs
+
+returns : tie.Need-returns Inv-loop μ-loop
+returns c = (search needs, record { at = c .before .loop .inv .1; within = search needs })
+
+pub symbol-at-spec : {M : Type 1} → statement M
+symbol-at-spec =
+    tie.close
+    (tie.spec
+    Inv-loop
+    μ-loop
+    loop-holds
+    mul-loop
+    array-read-loop
+    mul-rest
+    array-read-rest
+    sub-rest
+    add-v
+    loop-less
+    loop-again
+    cast-t14
+    returns)
