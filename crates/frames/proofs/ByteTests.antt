@@ -1,5 +1,5 @@
 -- What the tests of bytes say: all zero, and the same bytes. Assumes nothing.
-use mathlib.Core.Bool.{true, _&&_, false≢true}
+use mathlib.Core.Bool.{true, false, _&&_, false≢true}
 use mathlib.Core.List.{List, [], _∷_, head-eq-of-cons-eq, tail-eq-of-cons-eq}
 use mathlib.Core.Path.{_≡_, refl, ap₂}
 use Prim.Native.Nat.{ℕ, suc, _+_, _-_, _≤_, _<_}
@@ -31,11 +31,15 @@ zeros-next f i end lt le =
     let h : i < length f = omega arith in
     rw (k, drop-cons f i 0 h, add-one i)
 
+-- a test that fails says what does not hold
+never : {A : Type 0} → ¬ A → Says false A
+never n = record { to = λ t. absurd (false≢true t); of = λ h. absurd (n h) }
+
 pub says-same-bytes : (u v : List ℕ) → Says (sameBytes u v) (u ≡ v)
 unfolding sameBytes
 says-same-bytes [] [] = record { to = λ t. refl; of = λ e. refl }
-says-same-bytes [] (y ∷ v) = record { to = λ t. absurd (false≢true t); of = λ e. absurd (let z : _≡_ {A = ℕ} 0 1 = cc in omega arith) }
-says-same-bytes (x ∷ u) [] = record { to = λ t. absurd (false≢true t); of = λ e. absurd (let z : _≡_ {A = ℕ} 0 1 = cc in omega arith) }
+says-same-bytes [] (y ∷ v) = never (λ e. let z : _≡_ {A = ℕ} 0 1 = cc in omega arith)
+says-same-bytes (x ∷ u) [] = never (λ e. let z : _≡_ {A = ℕ} 0 1 = cc in omega arith)
 says-same-bytes (x ∷ u) (y ∷ v) = says-as (says-and (says-eq x y) (says-same-bytes u v))
     (λ h. ap₂ _∷_ (h .0) (h .1))
     (λ e. (head-eq-of-cons-eq e, tail-eq-of-cons-eq e))

@@ -52,7 +52,8 @@ says-lt-difference p q p′ q′ = elim (decLt p q) [
   | no l ↦ elim (decLt p′ q′) [
     | yes l′ ↦ rw (above p q (omega arith), below p′ q′ l′)
         (record { to = λ t. absurd (false≢true t); of = λ h. absurd (omega arith) })
-    | no l′ ↦ rw (above p q (omega arith), above p′ q′ (omega arith)) (says-as (says-lt (p - q) (p′ - q′)) (λ h. omega arith) (λ h. omega arith))
+    | no l′ ↦ rw (above p q (omega arith), above p′ q′ (omega arith))
+        (says-as (says-lt (p - q) (p′ - q′)) (λ h. omega arith) (λ h. omega arith))
   ]
 ]
 

@@ -30,8 +30,9 @@ pub passed : (n : ℕ) (s : Setting) → settingOk n s ≡ true → Passed n s
 unfolding settingOk
 passed n s t =
     let (p, q, e) = as-difference (s .top) in
+    let bottom = s .top -ℤ pos ((n - 1) * s .spacing) in
     let tests = says-and (says-and (says-itself (leZ (negsuc 9999) (s .top))) (says-itself (leZ (s .top) (pos 2000))))
-    (says-and (says-and (says-le 1 (s .spacing)) (says-le (s .spacing) 500)) (says-itself (leZ (negsuc 11999) (s .top -ℤ pos ((n - 1) * s .spacing))))) in
+    (says-and (says-and (says-le 1 (s .spacing)) (says-le (s .spacing) 500)) (says-itself (leZ (negsuc 11999) bottom))) in
     let ((l, u), ((spaced, m), b)) = tests .to t in
     let upper = says-le-difference p q 2000 0 .to (rw e at u) in
     let lowest = says-le-difference 0 12000 p (q + (n - 1) * s .spacing) .to (rw (e, lower-difference) at b) in

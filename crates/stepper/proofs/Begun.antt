@@ -28,7 +28,8 @@ use Rattle.frames.proofs.Differences.{says-le}
 use Rattle.frames.proofs.Padding.{unused-padded}
 use Rattle.stepper.specs.declared.session.Exchanged.{Exchanged}
 use Rattle.stepper.specs.declared.session.Session.{Session}
-use Rattle.stepper.specs.Exchange.{windowOk, beginReply, hasBegun, refuse, roundIn, beginFrame, onward, stepped, stepOf, stepFrame, queryOf, queryFrame, handle}
+use Rattle.stepper.specs.Exchange.{windowOk, beginReply, hasBegun, refuse, roundIn, beginFrame}
+use Rattle.stepper.specs.Exchange.{onward, stepped, stepOf, stepFrame, queryOf, queryFrame, handle}
 
 pub says-length : (n : ℕ) → Says (isLength n) ((1 ≤ n) × (n ≤ 16))
 unfolding isLength
@@ -47,8 +48,9 @@ pub says-round : (n rule : ℕ) (window : List ℕ) (setting : Setting) →
     Says (isLength n && (isRule rule && (windowOk n rule window && settingOk n setting))) (RoundOk n rule window setting)
 unfolding windowOk
 says-round n rule window setting = says-as
-    (says-and (says-length n) (says-and (says-itself (isRule rule))
-    (says-and (says-and (says-itself (inForm rule (take n window))) (says-itself (zeros (drop n window)))) (says-itself (settingOk n setting)))))
+    (says-and (says-length n) (says-and (says-itself (isRule rule)) (says-and
+    (says-and (says-itself (inForm rule (take n window))) (says-itself (zeros (drop n window))))
+    (says-itself (settingOk n setting)))))
     (λ ((low, high), (known, ((form, unused), levels))).
     record { low = low; high = high; known = known; form = form; unused = unused; levels = levels })
     (λ r. ((r .low, r .high), (r .known, ((r .form, r .unused), r .levels))))
@@ -159,5 +161,6 @@ module _ (s : Session) (l : length (s .window) ≡ 16) where
       (λ e. leaves-cond (not (reservedS f)) (λ e. leaves-refused s ReservedByte) (λ e. step-leaves (numberIn f))) (λ e.
       leaves-cond (eqb (kindIn f) letterQ)
       (λ e. leaves-cond (not (reservedQ f)) (λ e. leaves-refused s ReservedByte) (λ e.
-      leaves-cond (not (hasBegun s)) (λ e. leaves-refused s NotBegun) (λ e. record { begun = λ t. says-begun s .to (not-false (hasBegun s) e) })))
+      leaves-cond (not (hasBegun s)) (λ e. leaves-refused s NotBegun) (λ e.
+      record { begun = λ t. says-begun s .to (not-false (hasBegun s) e) })))
       (λ e. leaves-refused s FrameKind)))))) .begun

@@ -25,7 +25,8 @@ use Rattle.frames.specs.Answer.{accepted, answerBytes, newest}
 use Rattle.frames.proofs.Padding.{padded-take}
 use Rattle.stepper.specs.declared.session.Exchanged.{Exchanged}
 use Rattle.stepper.specs.declared.session.Session.{Session}
-use Rattle.stepper.specs.Exchange.{beginReply, hasBegun, refuse, roundIn, beginFrame, onward, stepped, stepOf, handle, answerTo, exchange}
+use Rattle.stepper.specs.Exchange.{beginReply, hasBegun, refuse, roundIn, beginFrame, onward, stepped, stepOf}
+use Rattle.stepper.specs.Exchange.{handle, answerTo, exchange}
 use Rattle.stepper.proofs.Begun.{says-round, begin-judged, says-begun}
 
 -- a(n), as it is looked up, where n is a window's length

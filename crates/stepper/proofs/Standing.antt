@@ -21,7 +21,8 @@ use Rattle.frames.specs.Fields.{part}
 use Rattle.frames.specs.Question.{isQuestion, kindIn, letterB, letterS, lengthIn, ruleIn, numberIn, settingIn, windowIn, reservedB, reservedS}
 use Rattle.frames.proofs.Padding.{unused-padded, padded-take}
 use Rattle.stepper.specs.Exchange.{hasBegun, refuse, roundIn, onward, stepped, stepOf, stepFrame, handle}
-use Rattle.stepper.specs.TwoBenches.{Arrival, passes, isNext, isResend, accepts, roundOf, causeAt, startOf, windowAfter, sessionAt, beginOk}
+use Rattle.stepper.specs.TwoBenches.{Arrival, passes, isNext, isResend, accepts, roundOf, causeAt}
+use Rattle.stepper.specs.TwoBenches.{startOf, windowAfter, sessionAt, beginOk}
 use Rattle.stepper.proofs.Begun.{RoundOk, says-round, says-begun}
 use Rattle.stepper.proofs.Handling.{outer, inner}
 
@@ -67,7 +68,7 @@ module _ (g : List ℕ) (G : Good g) where
   unfolding onward sessionAt windowAfter iter
   onward-at k = rw (held k, add-one k)
 
-  begun-at : (k : ℕ) → k ≤ roundOf g → hasBegun (sessionAt g k) ≡ true
+  pub begun-at : (k : ℕ) → k ≤ roundOf g → hasBegun (sessionAt g k) ≡ true
   unfolding sessionAt roundOf
   begun-at k le = says-begun (sessionAt g k) .of (record {
     flag = refl;

@@ -45,9 +45,9 @@ returns-2 c =
     let judged = c .before .before in
     let round = judged .before in
     let s = round .before .before .before in
+    let is = judged .begin-reply .ensures ∙ ap beginReply (round .round-in .ensures) in
     rw (round .round-in .ensures)
-    (begin-yes (s .args .session) (s .args .f) _ (reserved (round .before)) (judged .begin-reply .ensures ∙ ap beginReply (round .round-in .ensures))
-    (rw (c .enum-told .given .1)))
+    (begin-yes (s .args .session) (s .args .f) _ (reserved (round .before)) is (rw (c .enum-told .given .1)))
 
 returns-3 : tie.Need-returns-3
 unfolding accepted

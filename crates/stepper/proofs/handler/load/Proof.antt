@@ -14,7 +14,9 @@ copy-requires : tie.Need-copy-requires
 copy-requires c κs = search needs
 
 returns : tie.Need-returns
-returns c = copied (now (c .before .before .before .before .args .frame)) (replicate 40 0) _ (c .before .copy .ensures .1) (sym (c .before .before .before .before .pre))
+returns c =
+    let start = c .before .before .before .before in
+    copied (now (start .args .frame)) (replicate 40 0) _ (c .before .copy .ensures .1) (sym (start .pre))
 
 pub load-spec : {M : Type 1} → statement M
 load-spec = tie.close (tie.spec slice-aggregate-copy copy-requires returns)
