@@ -155,6 +155,80 @@ static void whole_round(int rule, int n)
     CHECK(memcmp(w, first, (size_t)n) == 0, "a round of rule %d, n = %d, ends at its start", rule, n);
 }
 
+static void check_place(uint64_t n, const uint8_t *w, size_t len, size_t out_len)
+{
+    uint8_t *out = lend_out(out_len);
+    uint32_t want = n < 1 || n > 16                              ? 256 + 6
+                    : out_len < 8                                ? 256 + 1
+                    : len != n || !ref_is_height(w, (int)n)      ? 256 + 8
+                                                                 : 0;
+    uint32_t got = wko_place(n, lend(w, len), len, out, out_len);
+    size_t written = want == 0 ? 8 : 0;
+    CHECK(got == want, "place, n = %llu, length %zu: %u, not %u", (unsigned long long)n, len, got, want);
+    if (want == 0) {
+        uint64_t place = ref_place(w, (int)n);
+        for (int i = 0; i < 8; i++)
+            CHECK(out[i] == (uint8_t)(place >> (8 * i)), "byte %d of a place of n = %llu", i, (unsigned long long)n);
+    }
+    CHECK(untouched(out_page, out, written, out_len), "place wrote beside its %zu bytes", written);
+}
+
+static void check_window_at(uint64_t n, uint64_t place, size_t out_len)
+{
+    uint8_t *out = lend_out(out_len), w[16];
+    uint32_t want = n < 1 || n > 16                 ? 256 + 6
+                    : out_len < n                   ? 256 + 1
+                    : place >= ref_count((int)n)    ? 256 + 13
+                                                    : 0;
+    uint32_t got = wko_window_at(n, place, out, out_len);
+    size_t written = want == 0 ? (size_t)n : 0;
+    CHECK(got == want, "window of n = %llu at %llu: %u, not %u", (unsigned long long)n, (unsigned long long)place, got, want);
+    CHECK(untouched(out_page, out, written, out_len), "window at a place wrote beside its %zu bytes", written);
+    if (want == 0) {
+        ref_window_at((int)n, place, w);
+        CHECK(memcmp(out, w, (size_t)n) == 0, "another window of n = %llu at %llu", (unsigned long long)n, (unsigned long long)place);
+        check_place(n, w, (size_t)n, 8 + random_below(3));
+    }
+}
+
+/* Every place of n, there and back. */
+static void all_places(int n)
+{
+    for (uint64_t k = 0; k < ref_count(n) + 3; k++)
+        check_window_at((uint64_t)n, k, 16);
+}
+
+/* The first, the last and random places of each n up to 16, and those just past the end. */
+static void some_places(long rounds)
+{
+    for (uint64_t n = 1; n <= 16; n++) {
+        uint64_t count = ref_count((int)n);
+        check_window_at(n, 0, n);
+        check_window_at(n, count - 1, n);
+        check_window_at(n, count, n);
+        check_window_at(n, UINT64_MAX, n);
+        for (long k = 0; k < rounds; k++)
+            check_window_at(n, random_below(count), n + random_below(3));
+    }
+}
+
+static void refusals_of_places(void)
+{
+    uint8_t w[20] = {0};
+    for (size_t k = 0; k < sizeof lengths / sizeof *lengths; k++)
+        for (size_t out_len = 0; out_len <= 18; out_len++) {
+            check_window_at(lengths[k], 0, out_len);
+            for (size_t len = 0; len <= 20; len++)
+                check_place(lengths[k], w, len, out_len);
+        }
+    w[0] = 2;
+    check_place(3, w, 3, 8);
+}
+
+/* Document 01, "Place". */
+static const uint8_t windows_of_3[13][3] = {{0, 0, 0}, {0, 0, 1}, {0, 1, 0}, {0, 1, 1}, {0, 1, 2}, {0, 2, 1}, {1, 0, 0},
+                                            {1, 0, 1}, {1, 0, 2}, {1, 1, 0}, {1, 2, 0}, {2, 0, 1}, {2, 1, 0}};
+
 static void worked_example(void)
 {
     const uint8_t ranks[8] = {8, 2, 5, 1, 2, 2, 7, 6}, heights[8] = {5, 1, 2, 0, 1, 1, 4, 3};
@@ -162,6 +236,8 @@ static void worked_example(void)
     CHECK(wko_rank_to_height(8, ranks, 8, out, 8) == 0 && memcmp(out, heights, 8) == 0, "82512276 is 51201143 in heights");
     CHECK(wko_height_to_rank(8, heights, 8, out, 8) == 0 && memcmp(out, ranks, 8) == 0, "51201143 is 82512276 in ranks");
     CHECK(wko_rank_to_height(0, NULL, 0, NULL, 0) == 256 + 6, "no window at all is 6");
+    for (uint64_t k = 0; k < 13; k++)
+        CHECK(wko_window_at(3, k, out, 8) == 0 && memcmp(out, windows_of_3[k], 3) == 0, "window %d of n = 3", (int)k);
 }
 
 int main(void)
@@ -178,5 +254,9 @@ int main(void)
         for (int n = 1; n <= 7; n++)
             whole_round(rule, n);
     random_next_symbols(1000000);
+    refusals_of_places();
+    for (int n = 1; n <= 6; n++)
+        all_places(n);
+    some_places(100);
     return report("direct calls");
 }

@@ -15,7 +15,8 @@
  *   262 (6)   n is not 1 to 16
  *   263 (7)   the rule is not 1, 2 or 3
  *   264 (8)   the window is not n long, or no weak order of n in the form that the call takes
- * The tests are made in the order 6, 7, 1, 8, without those that have no meaning in a call, and the first that fails decides.
+ *   269 (13)  the place is not below a(n), the number of weak orders of n
+ * The tests are made in the order 6, 7, 1, then 8 or 13, without those that have no meaning in a call, and the first that fails decides.
  * A refused call writes no byte.
  */
 #ifndef WKO_H
@@ -39,6 +40,13 @@ uint32_t wko_rank_to_height(uint64_t n, const uint8_t *window, size_t window_len
 
 /* From height form to rank form. Takes a window in height form; otherwise as above. Refusals 6, 1, 8. */
 uint32_t wko_height_to_rank(uint64_t n, const uint8_t *window, size_t window_len, uint8_t *out, size_t out_len);
+
+/* The place of a window in height form: how many windows of n in height form stand before it in dictionary order, 0 to a(n) - 1.
+ * Writes 8 bytes, little-endian, to the front of out, which has out_len >= 8. Refusals 6, 1, 8. */
+uint32_t wko_place(uint64_t n, const uint8_t *window, size_t window_len, uint8_t *out, size_t out_len);
+
+/* The window of n in height form at a place. Writes n bytes to the front of out, which has out_len >= n. Refusals 6, 1, 13. */
+uint32_t wko_window_at(uint64_t n, uint64_t place, uint8_t *out, size_t out_len);
 
 #ifdef __cplusplus
 }

@@ -1,7 +1,7 @@
 // Little-endian numbers in the forty bytes of a frame, and two's complement.
 ghost use mathlib.Core.Path.{_≡_};
 ghost use Prim.Native.Nat.{_+_, _≤_, _<_};
-ghost use Rattle.frames.specs.Fields.{unsigned16, unsigned64, signed16, bits32};
+ghost use Rattle.frames.specs.Fields.{unsigned16, unsigned64, signed16, bits32, bytes64};
 
 // A byte, wider.
 fn wide16(x: u8) -> u16
@@ -53,4 +53,20 @@ pub fn bits_of(z: i32) -> u32
         return ((z as i64) + 4294967296) as u32;
     }
     z as u32
+}
+
+// The eight bytes of a number.
+pub fn bytes_of(x: u64) -> [u8; 8]
+    ensures { λ r. ⌜ r ≡ bytes64 x ⌝ }
+{
+    let mut b = [0u8; 8];
+    b[0] = (x % 256) as u8;
+    b[1] = (x / 256 % 256) as u8;
+    b[2] = (x / 65536 % 256) as u8;
+    b[3] = (x / 16777216 % 256) as u8;
+    b[4] = (x / 4294967296 % 256) as u8;
+    b[5] = (x / 1099511627776 % 256) as u8;
+    b[6] = (x / 281474976710656 % 256) as u8;
+    b[7] = (x / 72057594037927936) as u8;
+    b
 }

@@ -10,10 +10,10 @@ use lib.Dec.{eqb}
 use lib.ListN.{length}
 use lib.Seq.{append-snoc}
 use borrow.Author.Tests.{eqb-true, eq-eqb, ne-eqb}
-use Rattle.weak_orders.specs.Window.{all, count, range, occurs, different, height, isHeight}
+use Rattle.weak_orders.specs.Window.{all, count, range, occurs, different, height, isHeight, bound}
 use Rattle.weak_orders.proofs.HeightForm.{height-form, form-height}
 use Rattle.weak_orders.proofs.Lists.{count-nil, count-cons, count-cong, count-map, count-none, in-range, of-range}
-use Rattle.weak_orders.proofs.Symbols.{bound, bound-append, bound-back, different-below, different≤bound, different≤length, different-old, different-new}
+use Rattle.weak_orders.proofs.Symbols.{bound-append, bound-back, different-below, different≤bound, different≤length, different-old, different-new}
 use Rattle.weak_orders.proofs.Tests.{_∈_, by-test, bit}
 use Rattle.ranking.specs.Counts.{L, sum, a, ways, waysFrom}
 use Rattle.ranking.specs.Dictionary.{strings, heightWindows}
@@ -133,7 +133,8 @@ by-different n p r h = count-by-value (λ s. isHeight (p ++ s)) (λ s. different
     (λ s m i. let (e, b) = of-strings r n m in omega (arith, different≤bound (p ++ s), bound-append p s))
 
 -- so with d different symbols in p: the ways for each number k of symbols from the bound of p on, with k - d missing
-pub endings-ways : (n : ℕ) (p : List ℕ) (r : ℕ) → bound p ≤ n → length p + r ≡ n → endings n p r ≡ waysFrom r (bound p - different p) (different p)
+pub endings-ways : (n : ℕ) (p : List ℕ) (r : ℕ) → bound p ≤ n → length p + r ≡ n →
+    endings n p r ≡ waysFrom r (bound p - different p) (different p)
 unfolding waysFrom
 endings-ways n p r h e =
     let b = bound p in

@@ -1,5 +1,5 @@
 -- What code finds out about a prefix, and the completions with each symbol behind it by that. Assumes nothing.
-use mathlib.Core.Bool.{true, false, cond}
+use mathlib.Core.Bool.{false, cond}
 use mathlib.Core.List.{List, [], _∷_, _++_}
 use mathlib.Core.Path.{_≡_, sym, ap, ap₂, _∙_}
 use Prim.Native.Nat.{ℕ, suc, max, _+_, _-_, _^_, _≤_, _<_}
@@ -7,8 +7,8 @@ use native.Mathlib.Omega.{arith}
 use lib.Dec.{ltb}
 use lib.ListN.{length, getD}
 use Rattle.weak_orders.specs.Tables.{tally}
-use Rattle.weak_orders.specs.Window.{num, occurs, different}
-use Rattle.weak_orders.proofs.Symbols.{bound, bound-back, different≤bound, different≤length, different-new}
+use Rattle.weak_orders.specs.Window.{occurs, different, bound}
+use Rattle.weak_orders.proofs.Symbols.{bound-back, different≤bound, different≤length, different-new}
 use Rattle.weak_orders.proofs.Tallies.{tally-num}
 use Rattle.weak_orders.proofs.Tests.{by-test}
 use Rattle.ranking.specs.Counts.{waysFrom}
@@ -37,7 +37,7 @@ counted seen top present totals v =
     let m = missing top present v in
     cond (ltb 0 (getD seen v 0)) (getD totals m 0) (getD totals (m - 1) 0 + getD totals m 0)
 
-module _ (n : ℕ) (p seen : List ℕ) (top present : ℕ) (totals : List ℕ) (K : Known n p seen top present totals) where
+module _ {n : ℕ} {p seen : List ℕ} {top present : ℕ} {totals : List ℕ} (K : Known n p seen top present totals) where
   pub symbols≤top : present ≤ top
   symbols≤top = omega (arith, K .largest, K .symbols, different≤bound p)
 

@@ -12,3 +12,6 @@ pub mod Prefixes
 pub mod Following
 pub mod Loops
 pub mod Answered
+pub mod Tried
+pub mod Numberings
+pub mod CountsAndPlaces

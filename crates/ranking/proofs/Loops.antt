@@ -1,24 +1,25 @@
 -- The two loops over the symbols of a window in an array of 16: what they know at the index i. Assumes nothing.
 use mathlib.Core.Bool.{true}
-use mathlib.Core.List.{List, [], _∷_, _++_}
-use mathlib.Core.Path.{_≡_, sym, ap, ap₂, _∙_}
-use Prim.Native.Nat.{ℕ, suc, _+_, _≤_, _<_}
+use mathlib.Core.List.{List}
+use mathlib.Core.Path.{_≡_, sym, ap, _∙_}
+use Prim.Native.Nat.{ℕ, _+_, _≤_, _<_}
 use native.Mathlib.Omega.{arith}
 use lib.ListN.{length, getD, set, take, drop, length-take, take-append-drop}
 use lib.Seq.{getD-take, take-take}
 use Rattle.weak_orders.specs.Converted.{isHeightWindow}
-use Rattle.weak_orders.specs.Window.{isHeight, padded}
+use Rattle.weak_orders.specs.Window.{padded, bound}
 use Rattle.weak_orders.proofs.FormTests.{of-height-window}
 use Rattle.weak_orders.proofs.HeightForm.{height-bound}
 use Rattle.weak_orders.proofs.Lists.{getD-in}
 use Rattle.weak_orders.proofs.Padded.{take-padded, padded-next}
-use Rattle.weak_orders.proofs.Symbols.{bound, bound-in, bound-append}
+use Rattle.weak_orders.proofs.Symbols.{bound-in, bound-append}
 use Rattle.ranking.specs.Counts.{sum, a, Found}
-use Rattle.ranking.specs.Dictionary.{completions, completionsWith, place, windowAt}
+use Rattle.ranking.specs.Dictionary.{completionsWith, place, windowAt}
 use Rattle.ranking.specs.Tables.{Entries}
-use Rattle.ranking.proofs.Places.{HeightWindow, heights-numbered, placeAt, place-upto, place-sum}
+use Rattle.ranking.specs.Numbering.{HeightWindow}
+use Rattle.ranking.proofs.Places.{heights-numbered, placeAt, place-upto, place-sum}
 use Rattle.ranking.proofs.Prefixes.{completions-suc}
-use Rattle.ranking.proofs.Size.{a≤a16}
+use Rattle.ranking.proofs.Size.{most, a≤most}
 use Rattle.ranking.proofs.Sums.{sum-cong}
 use Rattle.ranking.proofs.WindowAt.{Reached, reached-next}
 
@@ -26,8 +27,12 @@ use Rattle.ranking.proofs.WindowAt.{Reached, reached-next}
 entries-sum : (t : List ℕ) (f : ℕ → ℕ) (n : ℕ) → Entries t f n → (m : ℕ) → m ≤ n → sum (λ i. getD t i 0) m ≡ sum f m
 entries-sum t f n h m l = sum-cong (λ i. getD t i 0) f m (λ i lt. h i (omega arith))
 
-found-entries : (t : List ℕ) (f : ℕ → ℕ) (n : ℕ) → Entries t f n → (k v l : ℕ) → v < n → Found (λ i. getD t i 0) k v l → Found f k v l
-found-entries t f n h k v l lt F = record { at = omega (arith, F .at, entries-sum t f n h v (omega arith)); within = omega (arith, F .within, h v lt) }
+found-entries : (t : List ℕ) (f : ℕ → ℕ) (n : ℕ) → Entries t f n →
+    (k v l : ℕ) → v < n → Found (λ i. getD t i 0) k v l → Found f k v l
+found-entries t f n h k v l lt F = record {
+  at = omega (arith, F .at, entries-sum t f n h v (omega arith));
+  within = omega (arith, F .within, h v lt);
+}
 
 bound-take : (w : List ℕ) (i : ℕ) → bound (take i w) ≤ bound w
 bound-take w i = omega (arith, bound-append (take i w) (drop i w), ap bound (take-append-drop i w))
@@ -56,12 +61,12 @@ module _ (w : List ℕ) (n : ℕ) (long : length w ≡ 16) (h : isHeightWindow n
   placed-at i l t e = entries-sum t (completionsWith n (take i w)) n e (getD w i 0) (omega (arith, symbol-low i l))
       ∙ rw (size, take-take i n w (omega arith), getD-take n w i 0 l)
 
-  pub placed-fits : (i : ℕ) → i ≤ n → sum (placeAt (take n w)) i ≤ 5315654681981355
+  pub placed-fits : (i : ℕ) → i ≤ n → sum (placeAt (take n w)) i ≤ most
   placed-fits i l = omega (
     arith,
     place-upto (take n w) (omega (arith, low, size)) i (omega (arith, size)),
     heights-numbered n .place-below (take n w) (size, of-height-window w n h .2),
-    a≤a16 n few,
+    a≤most n few,
   )
 
   pub placed-all : sum (placeAt (take n w)) n ≡ place (take n w)
@@ -80,7 +85,8 @@ module _ (n k : ℕ) (few : n ≤ 16) (h : k < a n) where
     found-low = rw found-prefix (omega (arith, bound-take (windowAt n k) i, height-bound (windowAt n k) (at-place .1), at-place .0))
 
     -- what is left lies within the counts of the next symbols
-    pub found-within : (m : ℕ) → i < n → Reached n (windowAt n k) i m → (t : List ℕ) → Entries t (completionsWith n (take i v)) n → m < sum (λ u. getD t u 0) n
+    pub found-within : (m : ℕ) → i < n → Reached n (windowAt n k) i m → (t : List ℕ) → Entries t (completionsWith n (take i v)) n →
+        m < sum (λ u. getD t u 0) n
     found-within m lt R t E =
         let p = take i (windowAt n k) in
         let low = rw found-prefix at found-low in

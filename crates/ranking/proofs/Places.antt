@@ -1,5 +1,5 @@
 -- Places number the height windows, and the rank windows with them; a place is a sum over the window's prefixes. Assumes nothing.
-use mathlib.Core.Bool.{Bool, true, _&&_, and-true, and-false}
+use mathlib.Core.Bool.{Bool, _&&_, and-true, and-false}
 use mathlib.Core.Path.{_≡_, refl, sym, ap, _∙_}
 use mathlib.Core.List.{List, [], _∷_, _++_}
 use Prim.Native.Nat.{ℕ, zero, suc, _+_, _-_, _≤_, _<_}
@@ -7,29 +7,23 @@ use native.Mathlib.Omega.{arith}
 use lib.ListN.{length, getD, take, drop, length-append}
 use lib.Seq.{append-snoc, take-suc, drop-cons, drop-length}
 use Rattle.weak_orders.specs.Order.{lexLt}
-use Rattle.weak_orders.specs.Window.{all, count, isRank, isHeight, heights, ranks}
+use Rattle.weak_orders.specs.Window.{all, count, isHeight, heights, ranks, bound}
 use Rattle.weak_orders.proofs.Conversions.{ranks-isRank, heights-isHeight, length-ranks, length-heights, ranks-heights, heights-ranks}
 use Rattle.weak_orders.proofs.HeightForm.{height-bound}
 use Rattle.weak_orders.proofs.Lists.{count-cong, count-none}
 use Rattle.weak_orders.proofs.Orders.{lexLt-nil, lexLt-less, lexLt-greater, lexLt-equal, lexLt-irreflexive, lexLt-asymmetric}
-use Rattle.weak_orders.proofs.Symbols.{bound, bound-back}
+use Rattle.weak_orders.proofs.Symbols.{bound-back}
 use Rattle.weak_orders.proofs.Tests.{_∈_}
 use Rattle.ranking.specs.Counts.{sum, a}
 use Rattle.ranking.specs.Dictionary.{strings, heightWindows, completions, place, windowAt}
-use Rattle.ranking.specs.Numbering.{Numbering}
+use Rattle.ranking.specs.Numbering.{Numbering, HeightWindow, RankWindow}
 use Rattle.ranking.proofs.Completions.{in-strings, of-strings, count-strings, fillings, endings, heightWindows-length}
 use Rattle.ranking.proofs.Listing.{in-select, of-select, count-select}
+use Rattle.ranking.proofs.Numberings.{Matching, numbering-through}
 use Rattle.ranking.proofs.Prefixes.{sum-endings}
 use Rattle.ranking.proofs.Sorted.{sorted-numbering}
 use Rattle.ranking.proofs.Strings.{heightWindows-sorted}
 use Rattle.ranking.proofs.Sums.{sum-zero, sum-suc, sum-cong, sum-past}
-
--- the weak orders of n, in each form
-abbrev pub HeightWindow : ℕ → List ℕ → Type 0
-HeightWindow n w = (length w ≡ n) × (isHeight w ≡ true)
-
-abbrev pub RankWindow : ℕ → List ℕ → Type 0
-RankWindow n w = (length w ≡ n) × (isRank w ≡ true)
 
 pub in-heightWindows : (n : ℕ) (w : List ℕ) → HeightWindow n w → w ∈ heightWindows n
 unfolding heightWindows
@@ -56,17 +50,18 @@ heights-numbered n =
       place-item = λ i l. place-in n (windowAt n i) (of-heightWindows n (S .item-in i (omega arith)) .0) ∙ S .place-item i (omega arith);
     }
 
--- a rank window has the place of its heights
+-- rank windows match their heights
+pub ranks-match : (n : ℕ) → Matching (HeightWindow n) (RankWindow n) heights ranks
+ranks-match n = record {
+  to-in = λ w p. (length-heights w ∙ p .0, heights-isHeight w);
+  from-in = λ w p. (length-ranks w ∙ p .0, ranks-isRank w);
+  from-to = λ w p. ranks-heights w (p .1);
+  to-from = λ w p. heights-ranks w (p .1);
+}
+
+-- so a rank window has the place of its heights
 pub ranks-numbered : (n : ℕ) → Numbering (RankWindow n) (a n) (λ w. place (heights w)) (λ i. ranks (windowAt n i))
-ranks-numbered n =
-    let H = heights-numbered n in
-    let to : (w : List ℕ) → RankWindow n w → HeightWindow n (heights w) = λ w p. (length-heights w ∙ p .0, heights-isHeight w) in
-    record {
-      place-below = λ w p. H .place-below (heights w) (to w p);
-      item-place = λ w p. ap ranks (H .item-place (heights w) (to w p)) ∙ ranks-heights w (p .1);
-      item-in = λ i l. (length-ranks (windowAt n i) ∙ H .item-in i l .0, ranks-isRank (windowAt n i));
-      place-item = λ i l. ap place (heights-ranks (windowAt n i) (H .item-in i l .1)) ∙ H .place-item i l;
-    }
+ranks-numbered n = numbering-through (heights-numbered n) (ranks-match n)
 
 -- ---- the place by prefixes
 

@@ -1,7 +1,7 @@
 -- The completions of a prefix: the windows that begin with it, counted by the ways to fill the places that are left. Assumes nothing.
 use mathlib.Core.Bool.{Bool, true, false, _&&_, and-true, and-false, and-eq-true-iff, false≢true}
 use mathlib.Core.List.{List, [], _∷_, _++_}
-use mathlib.Core.Path.{_≡_, refl, sym, ap, ap₂, _∙_}
+use mathlib.Core.Path.{_≡_, refl, sym, ap, _∙_}
 use Prim.Native.Nat.{ℕ, suc, max, _+_, _-_, _≤_, _<_}
 use native.Mathlib.Nat.{zero-add, suc-add}
 use native.Mathlib.Omega.{arith}
@@ -9,10 +9,9 @@ use native.Mathlib.Decide.{decLe}
 use lib.Dec.{eqb}
 use lib.ListN.{length, length-append}
 use borrow.Author.Tests.{eqb-true, eq-eqb, ne-eqb}
-use Rattle.weak_orders.specs.Window.{count, occurs, different, isHeight}
-use Rattle.weak_orders.proofs.HeightForm.{height-bound}
+use Rattle.weak_orders.specs.Window.{count, occurs, different, isHeight, bound}
 use Rattle.weak_orders.proofs.Lists.{count-cong, count-none}
-use Rattle.weak_orders.proofs.Symbols.{bound, bound-back, different≤bound, different≤length, different-old, different-new}
+use Rattle.weak_orders.proofs.Symbols.{bound-back, different≤bound, different≤length, different-old, different-new}
 use Rattle.weak_orders.proofs.Tests.{by-test, bit}
 use Rattle.ranking.specs.Counts.{sum, a, waysFrom}
 use Rattle.ranking.specs.Dictionary.{strings, heightWindows, begins, completions}
@@ -89,7 +88,8 @@ completions-ways n p h = elim (decLe (bound p) n) [
 
 -- one symbol more: one that p holds, or another
 module _ (n : ℕ) (p : List ℕ) (v : ℕ) (h : length p < n) where
-  by-ways : (d : ℕ) → different (p ++ (v ∷ [])) ≡ d → completions n (p ++ (v ∷ [])) ≡ waysFrom (n - suc (length p)) (max (bound p) (suc v) - d) d
+  by-ways : (d : ℕ) → different (p ++ (v ∷ [])) ≡ d →
+      completions n (p ++ (v ∷ [])) ≡ waysFrom (n - suc (length p)) (max (bound p) (suc v) - d) d
   by-ways d e =
       let l : length (p ++ (v ∷ [])) ≡ suc (length p) = omega (arith, length-append p (v ∷ [])) in
       completions-ways n (p ++ (v ∷ [])) (omega arith) ∙ rw (l, bound-back p v, e)

@@ -4,13 +4,12 @@ use mathlib.Core.List.{List, [], _∷_, _++_, append-nil}
 use Prim.Native.Nat.{ℕ, zero, suc, _+_, _-_, _≤_, _<_}
 use native.Mathlib.Nat.{zero-add, suc-add}
 use native.Mathlib.Omega.{arith}
-use native.Mathlib.Decide.{decLe}
 use lib.ListN.{length}
 use lib.Seq.{append-snoc}
-use Rattle.weak_orders.specs.Window.{range, different}
+use Rattle.weak_orders.specs.Window.{range, different, bound}
 use Rattle.weak_orders.proofs.HeightForm.{says-height, height-form}
 use Rattle.weak_orders.proofs.Lists.{in-range, of-range, length-range}
-use Rattle.weak_orders.proofs.Symbols.{bound, bound-back}
+use Rattle.weak_orders.proofs.Symbols.{bound-back}
 use Rattle.ranking.specs.Counts.{a, ways, waysFrom}
 use Rattle.ranking.proofs.Completions.{endings, endings-suc, endings-ways, endings-all}
 use Rattle.ranking.proofs.Sums.{term≤sum}
@@ -64,12 +63,15 @@ pub ways≤a : (r m p : ℕ) → ways r m p ≤ a (p + r)
 ways≤a r m p = omega (arith, waysFrom-next r m p, waysFrom≤a r m p)
 
 -- a(16), which fits 64 bits; so do all of the numbers above, up to 16
-pub a≤a16 : (n : ℕ) → n ≤ 16 → a n ≤ 5315654681981355
+abbrev pub most : ℕ
+most = 5315654681981355
+
+pub a≤most : (n : ℕ) → n ≤ 16 → a n ≤ most
 unfolding a
-a≤a16 n h = let e : a 16 ≡ 5315654681981355 = refl in omega (arith, a-mono n 16 h)
+a≤most n h = let e : a 16 ≡ most = refl in omega (arith, a-mono n 16 h)
 
-pub waysFrom-small : (r m p : ℕ) → r + p ≤ 16 → waysFrom r m p ≤ 5315654681981355
-waysFrom-small r m p h = omega (arith, waysFrom≤a r m p, a≤a16 (p + r) (omega arith))
+pub waysFrom-small : (r m p : ℕ) → r + p ≤ 16 → waysFrom r m p ≤ most
+waysFrom-small r m p h = omega (arith, waysFrom≤a r m p, a≤most (p + r) (omega arith))
 
-pub ways-small : (r m p : ℕ) → r + p ≤ 16 → ways r m p ≤ 5315654681981355
-ways-small r m p h = omega (arith, ways≤a r m p, a≤a16 (p + r) (omega arith))
+pub ways-small : (r m p : ℕ) → r + p ≤ 16 → ways r m p ≤ most
+ways-small r m p h = omega (arith, ways≤a r m p, a≤most (p + r) (omega arith))

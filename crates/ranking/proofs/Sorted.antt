@@ -19,7 +19,8 @@ pub data Sorted {A : Type 0} (lt : A → A → Bool) : List A → Type 0 where
   one : {x : A} {xs : List A} → ((y : A) → y ∈ xs → lt x y ≡ true) → Sorted lt xs → Sorted lt (x ∷ xs)
 
 module _ {A : Type 0} {lt : A → A → Bool} where
-  pub sorted-append : {xs ys : List A} → Sorted lt xs → Sorted lt ys → ((x y : A) → x ∈ xs → y ∈ ys → lt x y ≡ true) → Sorted lt (xs ++ ys)
+  pub sorted-append : {xs ys : List A} → Sorted lt xs → Sorted lt ys →
+      ((x y : A) → x ∈ xs → y ∈ ys → lt x y ≡ true) → Sorted lt (xs ++ ys)
   sorted-append none t h = t
   sorted-append (one {x = x} {xs = xs} f s) t h = one
       (λ y m. ⊎-elim (f y) (h x y (here refl)) (List·Memᴰ·append-cases xs m))
@@ -31,6 +32,13 @@ module _ {A : Type 0} {lt : A → A → Bool} where
   sorted-select p (one {x = x} {xs = xs} f s) = by-test (p x)
       (λ e. rw e (one (λ y m. f y (of-select p xs m .0)) (sorted-select p s)))
       (λ e. rw e (sorted-select p s))
+
+  -- an element stands before each one with a greater index
+  pub sorted-at : (d : A) {xs : List A} → Sorted lt xs → (i j : ℕ) → i < j → j < length xs → lt (getD xs i d) (getD xs j d) ≡ true
+  sorted-at d none i j l h = absurd (omega arith)
+  sorted-at d (one f s) i zero l h = absurd (omega arith)
+  sorted-at d (one {xs = xs} f s) zero (suc j) l h = f (getD xs j d) (getD-in xs j d (omega arith))
+  sorted-at d (one f s) (suc i) (suc j) l h = sorted-at d s i j (omega arith) (omega arith)
 
   pub sorted-map : {B : Type 0} {lt′ : B → B → Bool} (f : A → B) → ((x y : A) → lt x y ≡ true → lt′ (f x) (f y) ≡ true) →
       {xs : List A} → Sorted lt xs → Sorted lt′ (map f xs)

@@ -19,7 +19,8 @@ unfolding tabled
 tabled-at m f t h i l = eqb-true (getD t i 0) (f i) (all-in (λ i. eqb (getD t i 0) (f i)) h (in-range m i l))
 
 -- a store, and what holds of the other entries
-pub entries-set : (t : List ℕ) (f : ℕ → ℕ) (k x : ℕ) → k < length t → x ≡ f k → (i : ℕ) → (i ≢ k → getD t i 0 ≡ f i) → getD (set t k x) i 0 ≡ f i
+pub entries-set : (t : List ℕ) (f : ℕ → ℕ) (k x : ℕ) → k < length t → x ≡ f k →
+    (i : ℕ) → (i ≢ k → getD t i 0 ≡ f i) → getD (set t k x) i 0 ≡ f i
 entries-set t f k x h e i others = elim (ℕ-discrete i k) [
   | yes same ↦ ap (λ i. getD (set t k x) i 0) same ∙ getD-set-same t k x 0 h ∙ e ∙ ap f (sym same)
   | no ne ↦ getD-set-other t k i x 0 ne ∙ others ne

@@ -10,13 +10,14 @@ use lib.Dec.{leb}
 use lib.ListN.{length, getD, take, drop, length-take, length-append, take-append-drop}
 use lib.Seq.{append-snoc, take-suc, drop-cons}
 use borrow.Author.Tests.{leb-true, leb-false}
-use Rattle.weak_orders.specs.Window.{isHeight}
+use Rattle.weak_orders.specs.Window.{isHeight, bound}
 use Rattle.weak_orders.proofs.HeightForm.{height-bound}
-use Rattle.weak_orders.proofs.Symbols.{bound, bound-append, bound-back}
+use Rattle.weak_orders.proofs.Symbols.{bound-append, bound-back}
 use Rattle.weak_orders.proofs.Tests.{by-test, bit}
 use Rattle.ranking.specs.Counts.{sum, a, Found}
 use Rattle.ranking.specs.Dictionary.{completions, completionsWith, place, windowAt}
-use Rattle.ranking.proofs.Places.{HeightWindow, heights-numbered, placeFrom, place-by-prefixes}
+use Rattle.ranking.specs.Numbering.{HeightWindow}
+use Rattle.ranking.proofs.Places.{heights-numbered, placeFrom, place-by-prefixes}
 use Rattle.ranking.proofs.Prefixes.{completions-suc, completions-full, completions-all}
 use Rattle.ranking.proofs.Sums.{sum-suc, sum-mono}
 
@@ -77,7 +78,8 @@ pub record Standing (n : ℕ) (p : List ℕ) (r k : ℕ) (s : List ℕ) : Type 0
   pub form : isHeight (p ++ s) ≡ true
   pub at : placeFrom n p s ≡ k
 
-pub windowFrom-placed : (n : ℕ) (p : List ℕ) (r k : ℕ) → bound p ≤ n → length p + r ≡ n → k < completions n p → Standing n p r k (windowFrom n p r k)
+pub windowFrom-placed : (n : ℕ) (p : List ℕ) (r k : ℕ) → bound p ≤ n → length p + r ≡ n → k < completions n p →
+    Standing n p r k (windowFrom n p r k)
 unfolding windowFrom placeFrom bound
 windowFrom-placed n p zero k h e lt =
     let all = completions-full n p h (omega arith) in
@@ -119,7 +121,8 @@ pub record Reached (n : ℕ) (w : List ℕ) (i k : ℕ) : Type 0 where
 pub reached-start : (n k : ℕ) → k < a n → Reached n (windowAt n k) 0 k
 reached-start n k h = record { left = omega (arith, completions-all n); rest = rw sub-zero (sym (window-by-symbols n k h)) }
 
-pub reached-next : (n : ℕ) (w : List ℕ) → HeightWindow n w → (i k v m : ℕ) → i < n → Reached n w i k → Found (completionsWith n (take i w)) k v m →
+pub reached-next : (n : ℕ) (w : List ℕ) → HeightWindow n w → (i k v m : ℕ) → i < n → Reached n w i k →
+    Found (completionsWith n (take i w)) k v m →
     (v ≡ getD w i 0) × Reached n w (i + 1) m
 reached-next n w (len, form) i k v m l R F =
     let p = take i w in

@@ -7,6 +7,7 @@ use lib.ListN.{length, getD}
 use Rattle.weak_orders.specs.Window.{count, range, isHeight}
 use Rattle.weak_orders.specs.Order.{lexLt}
 
+-- the elements that pass the test, in order
 unfoldable pub select : {A : Type 0} → (A → Bool) → List A → List A
 select p [] = []
 select p (x ∷ xs) = cond (p x) (x ∷ select p xs) (select p xs)
@@ -17,6 +18,7 @@ unfolding range flatMap
 strings zero k = [] ∷ []
 strings (suc m) k = flatMap (λ v. map (λ s. v ∷ s) (strings m k)) (range k)
 
+-- the height windows of n; their symbols are below n
 unfoldable pub heightWindows : ℕ → List (List ℕ)
 unfolding select isHeight strings
 heightWindows n = select isHeight (strings n n)
@@ -26,10 +28,12 @@ unfoldable pub place : List ℕ → ℕ
 unfolding count lexLt heightWindows
 place w = count (λ u. lexLt u w) (heightWindows (length w))
 
+-- the height window of n at the place i
 unfoldable pub windowAt : ℕ → ℕ → List ℕ
 unfolding heightWindows
 windowAt n i = getD (heightWindows n) i []
 
+-- w begins with p
 unfoldable pub begins : List ℕ → List ℕ → Bool
 begins [] w = true
 begins (x ∷ p) [] = false

@@ -7,8 +7,7 @@ ghost use Prim.Native.Nat.{ℕ, max, _+_, _-_, _^_, _≤_, _<_};
 ghost use lib.Dec.{leb};
 ghost use lib.ListN.{getD, take};
 ghost use Rattle.weak_orders.specs.Converted.{isHeightWindow};
-ghost use Rattle.weak_orders.specs.Window.{padded};
-ghost use Rattle.weak_orders.proofs.Symbols.{bound};
+ghost use Rattle.weak_orders.specs.Window.{padded, bound};
 ghost use Rattle.ranking.specs.Answers.{placed, located};
 ghost use Rattle.ranking.specs.Counts.{L, a, sum, ways, waysFrom, Found};
 ghost use Rattle.ranking.specs.Dictionary.{completionsWith, place, windowAt};
@@ -55,9 +54,10 @@ fn none_missing(rest: u64, present: u64) -> u64
     total
 }
 
-// The ways to fill rest places where each of the missing heights has to stand in one, and any of the present may. With one missing
-// these are the fillings by one height more, without those that do not use it. With more, some places take present heights, in so many
-// fillings, the next takes a missing one, which is then present, and fewer places are left. More heights than places leave no way.
+// The ways to fill rest places where each of the missing heights has to stand in one, and any of the present may. With none present
+// they are in the table. With one missing they are the fillings by one height more, without those that do not use it. With more, some
+// places take present heights, in so many fillings, the next takes a missing one, which is then present, and fewer places are left.
+// Where more heights are missing than places are left there is no way, and none is tried.
 fn ways(rest: u64, missing: u64, present: u64) -> u64
     requires { ⌜ rest + present < 16 ⌝ }
     ensures { λ r. ⌜ r ≡ ways rest missing present ⌝ }
@@ -98,6 +98,7 @@ fn ways_from(rest: u64, present: u64) -> [u64; 17]
     totals
 }
 
+// The larger of two numbers.
 fn larger(x: usize, y: usize) -> usize
     ensures { λ r. ⌜ r ≡ max x y ⌝ }
 {

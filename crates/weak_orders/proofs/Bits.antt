@@ -13,10 +13,10 @@ use lib.Dec.{eqb, eqb·zero-suc, eqb·suc-zero, eqb·suc-suc, lit<, ltb}
 use lib.ListN.{length}
 use lib.Pow.{pow-pos, pow-lt, mod-pow-add}
 use borrow.Author.Tests.{lt-ltb, le-ltb, eq-eqb, ne-eqb}
-use Rattle.weak_orders.specs.Window.{num, occurs, height, different}
+use Rattle.weak_orders.specs.Window.{num, occurs, height, different, bound}
 use Rattle.weak_orders.specs.Tables.{bitOf, bitsOf}
 use Rattle.weak_orders.proofs.Tests.{bit, bit≤1}
-use Rattle.weak_orders.proofs.Symbols.{occurs-in, added-front, height-zero, height-suc, bound, different-below}
+use Rattle.weak_orders.proofs.Symbols.{occurs-in, added-front, height-zero, height-suc, different-below}
 
 abbrev digit : ℕ → ℕ → ℕ
 digit b u = b / 2 ^ u % 2

@@ -8,10 +8,10 @@ use native.Mathlib.Decide.{decLt}
 use lib.ListN.{length}
 use Rattle.weak_orders.specs.Rotation.{rotation}
 use Rattle.weak_orders.specs.Says.{Says}
-use Rattle.weak_orders.specs.Window.{different, isHeight}
+use Rattle.weak_orders.specs.Window.{different, isHeight, bound}
 use Rattle.weak_orders.proofs.Lists.{says-below}
 use Rattle.weak_orders.proofs.Rotations.{_⟳_, ⟳-sym, mem-ring, turned-rotation}
-use Rattle.weak_orders.proofs.Symbols.{says-occurs, occurs-in, in-occurs, height-full, full-height, bound, bound-in, bound-find, different-below, different≤length}
+use Rattle.weak_orders.proofs.Symbols.{says-occurs, occurs-in, in-occurs, height-full, full-height, bound-in, bound-find, different-below, different≤length}
 use Rattle.weak_orders.proofs.Tests.{_∈_, says-all}
 
 -- with each symbol every smaller number is present

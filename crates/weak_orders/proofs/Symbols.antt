@@ -11,7 +11,7 @@ use lib.Dec.{ltb, eqb}
 use lib.ListN.{length}
 use borrow.Author.Tests.{ltb-true, ltb-false, eqb-true, lt-ltb, le-ltb, eq-eqb, ne-eqb}
 use Rattle.weak_orders.specs.Says.{Says}
-use Rattle.weak_orders.specs.Window.{range, num, occurs, different, below, height}
+use Rattle.weak_orders.specs.Window.{range, num, occurs, different, bound, below, height}
 use Rattle.weak_orders.proofs.Iterates.{rest}
 use Rattle.weak_orders.proofs.Lists.{count-nil, count-cons, count-append, count-le-length, count-cong, count-map, count-none, count-pos, count-find, of-range}
 use Rattle.weak_orders.proofs.Lists.{count-range}
@@ -254,11 +254,6 @@ module _ {w w′ : List ℕ} {x : ℕ} (A : Added w x w′) where
       v h
 
 -- ---- how many different symbols there are
-
--- 1 more than the largest symbol of w; 0 where w is empty
-unfoldable pub bound : List ℕ → ℕ
-bound [] = 0
-bound (x ∷ w) = max (suc x) (bound w)
 
 pub bound-in : {w : List ℕ} {x : ℕ} → x ∈ w → x < bound w
 unfolding bound

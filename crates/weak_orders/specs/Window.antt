@@ -1,7 +1,7 @@
 -- Windows as lists of symbols, oldest first, and the two forms of a weak order (document 01, "Windows"; 002, section 1.1).
 use mathlib.Core.Bool.{Bool, true, false, cond, _&&_}
 use mathlib.Core.List.{List, [], _∷_, _++_, map}
-use Prim.Native.Nat.{ℕ, zero, suc, _-_}
+use Prim.Native.Nat.{ℕ, zero, suc, max, _-_}
 use lib.Dec.{ltb, leb, eqb}
 use lib.ListN.{length, drop, replicate}
 
@@ -39,6 +39,11 @@ unfoldable pub different : List ℕ → ℕ
 unfolding occurs
 different [] = 0
 different (x ∷ w) = cond (occurs w x) (different w) (suc (different w))
+
+-- 1 more than the largest symbol of w; 0 where w is empty
+unfoldable pub bound : List ℕ → ℕ
+bound [] = 0
+bound (x ∷ w) = max (suc x) (bound w)
 
 -- in how many places w holds a symbol smaller than v
 unfoldable pub below : List ℕ → ℕ → ℕ

@@ -1,16 +1,21 @@
 -- What each direct call returns and leaves in the buffer, for every argument (document 01, "Turned down").
-use mathlib.Core.Bool.{Bool, cond, not, _&&_}
+use mathlib.Core.Bool.{Bool, true, false, cond, not, _&&_}
 use mathlib.Core.List.{List, _++_}
 use Prim.Native.Nat.{ℕ, _+_}
 use lib.Dec.{ltb, eqb}
-use lib.ListN.{length, take, drop}
+use lib.ListN.{length, take, drop, replicate}
 use Rattle.refusals.specs.Numbers.{causeNumber}
 use Rattle.refusals.specs.declared.Cause.{Cause}
-use Rattle.refusals.specs.declared.Cause.the-variants.{ShortBuffer, WindowLength, RuleNumber, NotWeakOrder}
+use Rattle.refusals.specs.declared.Cause.the-variants.{ShortBuffer, WindowLength, RuleNumber, NotWeakOrder, NoSuchPlace}
 use Rattle.successors.specs.declared.Next.{Next}
 use Rattle.successors.specs.declared.Next.the-variants.{Symbol, NotWeakOrder as NoWeakOrder}
 use Rattle.successors.specs.Rules.{ruleOf, inForm, isRule}
-use Rattle.weak_orders.specs.declared.Converted.{Converted}
+use Rattle.ranking.specs.declared.Placed.{Placed}
+use Rattle.ranking.specs.declared.Placed.the-variants.{At, NotHeightForm}
+use Rattle.ranking.specs.Counts.{a}
+use Rattle.ranking.specs.Dictionary.{place, windowAt}
+use Rattle.frames.specs.Fields.{bytes64}
+use Rattle.wko.specs.declared.PlaceBytes.{PlaceBytes}
 use Rattle.weak_orders.specs.Window.{isLength, isRank, isHeight, heights, ranks}
 
 -- the number returned, and the whole buffer
@@ -28,34 +33,37 @@ refuse c out = (refusal c, out)
 unfoldable pub accept : List ℕ → List ℕ → Outcome
 accept bytes out = (0, bytes ++ drop (length bytes) out)
 
--- a conversion of windows in a form: tests 6, 1 and 8
-unfoldable pub convert : (List ℕ → Bool) → (List ℕ → List ℕ) → ℕ → List ℕ → List ℕ → Outcome
+-- a call that takes a window in a form and writes `need` bytes or more: tests 6, 1 and 8
+unfoldable pub windowCall : (List ℕ → Bool) → (List ℕ → List ℕ) → ℕ → ℕ → List ℕ → List ℕ → Outcome
 unfolding isLength refuse accept
-convert inForm f n w out =
+windowCall inForm bytes need n w out =
     cond (not (isLength n)) (refuse WindowLength out) (
-    cond (ltb (length out) n) (refuse ShortBuffer out) (
+    cond (ltb (length out) need) (refuse ShortBuffer out) (
     cond (not (eqb (length w) n && inForm w)) (refuse NotWeakOrder out) (
-    accept (f w) out)))
+    accept (bytes w) out)))
 
+-- the two conversions
 unfoldable pub rankToHeightCall : ℕ → List ℕ → List ℕ → Outcome
-unfolding convert isRank heights
-rankToHeightCall = convert isRank heights
+unfolding windowCall isRank heights
+rankToHeightCall n = windowCall isRank heights n n
 
 unfoldable pub heightToRankCall : ℕ → List ℕ → List ℕ → Outcome
-unfolding convert isHeight ranks
-heightToRankCall = convert isHeight ranks
+unfolding windowCall isHeight ranks
+heightToRankCall n = windowCall isHeight ranks n n
 
--- the parts of a conversion's work: the tests on lengths, and what a converted window leaves
-unfoldable pub conversionTests : ℕ → ℕ → ℕ → ℕ
-unfolding isLength
-conversionTests n window out =
-    cond (not (isLength n)) (refusal WindowLength) (
-    cond (ltb out n) (refusal ShortBuffer) (
-    cond (not (eqb window n)) (refusal NotWeakOrder) 0))
+-- the place of a height window, in eight bytes
+unfoldable pub placeCall : ℕ → List ℕ → List ℕ → Outcome
+unfolding windowCall isHeight place
+placeCall n = windowCall isHeight (λ w. bytes64 (place w)) 8 n
 
-unfoldable pub given : Converted → ℕ → List ℕ → Outcome
-unfolding refuse accept
-given c n out = cond (c .done) (accept (take n (c .window)) out) (refuse NotWeakOrder out)
+-- the height window at a place: tests 6, 1 and 13
+unfoldable pub windowAtCall : ℕ → ℕ → List ℕ → Outcome
+unfolding isLength a windowAt refuse accept
+windowAtCall n k out =
+    cond (not (isLength n)) (refuse WindowLength out) (
+    cond (ltb (length out) n) (refuse ShortBuffer out) (
+    cond (not (ltb k (a n))) (refuse NoSuchPlace out) (
+    accept (windowAt n k) out)))
 
 -- the next symbol under a rule: tests 6, 7 and 8; a symbol, or a refusal
 unfoldable pub nextSymbolCall : ℕ → ℕ → List ℕ → ℕ
@@ -70,3 +78,23 @@ nextSymbolCall n rule w =
 abbrev pub answerOf : Next → ℕ
 answerOf (Symbol s) = s
 answerOf NoWeakOrder = refusal NotWeakOrder
+
+-- the parts of the work: the tests on lengths, 0 where they pass, and what each answer leaves in the buffer
+unfoldable pub lengthTests : ℕ → ℕ → ℕ → ℕ → ℕ
+unfolding isLength
+lengthTests n need window out =
+    cond (not (isLength n)) (refusal WindowLength) (
+    cond (ltb out need) (refusal ShortBuffer) (
+    cond (not (eqb window n)) (refusal NotWeakOrder) 0))
+
+unfoldable pub given : Bool → Cause → ℕ → List ℕ → List ℕ → Outcome
+unfolding refuse accept
+given done cause n w out = cond done (accept (take n w) out) (refuse cause out)
+
+abbrev pub placeBytes : Placed → PlaceBytes
+placeBytes (At k) = record { done = true; bytes = bytes64 k }
+placeBytes NotHeightForm = record { done = false; bytes = replicate 8 0 }
+
+unfoldable pub givenPlace : Placed → List ℕ → Outcome
+unfolding refuse accept
+givenPlace p out = cond (placeBytes p .done) (accept (placeBytes p .bytes) out) (refuse NotWeakOrder out)

@@ -1,7 +1,7 @@
 -- `ranking::ways` meets its contract, by induction on the places that are left. The loop's invariant: so many fillings of the places
 -- passed, each with the ways that the places left have, and what was added up, are all the ways. Assumes nothing.
-use mathlib.Core.Path.{_≡_, refl, sym, ap, ap₂, _∙_}
-use Prim.Native.Nat.{ℕ, suc, _+_, _-_, _*_, _≤_, _<_}
+use mathlib.Core.Path.{_≡_, sym, ap, _∙_}
+use Prim.Native.Nat.{ℕ, _+_, _-_, _*_, _≤_, _<_}
 use native.Mathlib.Nat.{mul-le-mul-left}
 use native.Mathlib.Omega.{arith}
 use borrow.Author.Needs.{needs}
@@ -9,7 +9,7 @@ use borrow.Fn.Kinds.{In}
 use borrow.Fn.PlainCycle.{Measures, is, falls, and}
 use Rattle.ranking.specs.Counts.{ways as waysTo}
 use Rattle.ranking.proofs.CountLaws.{ways-after, ways-none, ways-none-missing, ways-one-missing, table-or-none}
-use Rattle.ranking.proofs.Size.{ways-small}
+use Rattle.ranking.proofs.Size.{most, ways-small}
 use Rattle.ranking.proofs.ways.Reads as ways
 use Rattle.ranking.proofs.ways.Kinds as ways-kinds
 use Rattle.ranking.proofs.+ways.Lts-ways as lts
@@ -51,7 +51,7 @@ module _ (t : ℕ) where
       c .before .none-missing2 .result ≡ waysTo (a .rest) 1 (a .present) + c .none-missing3 .result
   one c =
       let a = c .before .before .before .before .before .args in
-      c .before .none-missing2 .ensures ∙ ways-one-missing (a .rest) (a .present) ∙ ap (waysTo (a .rest) 1 (a .present) +_) (sym (c .none-missing3 .ensures))
+      omega (arith, c .before .none-missing2 .ensures, c .none-missing3 .ensures, ways-one-missing (a .rest) (a .present))
 
   -- one place more is passed
   next : (c : lts.After-ways claims at ways.Post Inv-loop μ-loop) →
@@ -79,7 +79,7 @@ module _ (t : ℕ) where
       let e : a .rest - l .left + 1 ≡ a .rest - (l .left - 1) = omega arith in
       ap (_* a .present) (l .inv .1) ∙ ways-none-missing (a .rest - l .left) (a .present) ∙ ap (λ r. waysTo r 0 (a .present)) e
 
-  all-fit : (s : lts.Start claims at ways.Post Inv-loop μ-loop) → waysTo (s .args .rest) (s .args .missing) (s .args .present) ≤ 5315654681981355
+  all-fit : (s : lts.Start claims at ways.Post Inv-loop μ-loop) → waysTo (s .args .rest) (s .args .missing) (s .args .present) ≤ most
   all-fit s = ways-small (s .args .rest) (s .args .missing) (s .args .present) (omega (arith, s .pre .1))
 
   weak-order-count-with-requires : lts.Need-weak-order-count-with-requires claims at ways.Post Inv-loop μ-loop
@@ -131,8 +131,9 @@ module _ (t : ℕ) where
   mul-total c =
       let a = c .before .before .before .before .before .args in
       let l = c .before .loop in
-      let f = ways-small (a .rest - l .left) 0 (a .present) (omega (arith, c .before .before .before .before .before .pre .1)) in
-      let h : a .missing ≤ 16 = omega (arith, c .before .before .before .before .before .pre .1) in
+      let h = c .before .before .before .before .before .pre .1 in
+      let f = ways-small (a .rest - l .left) 0 (a .present) (omega arith) in
+      let h : a .missing ≤ 16 = omega arith in
       record { fits = omega (arith, f, l .inv .1, mul-le-mul-left (l .fillings) h) }
 
   sub-ways : lts.Need-sub-ways claims at ways.Post Inv-loop μ-loop
@@ -153,8 +154,9 @@ module _ (t : ℕ) where
   mul-fillings : lts.Need-mul-fillings claims at ways.Post Inv-loop μ-loop
   mul-fillings c =
       let a = c .before .before .before .before .before .before .args in
+      let h = c .before .before .before .before .before .before .pre .1 in
       let r = a .rest - (c .before .before .loop .left - 1) in
-      rw (more c) (record { fits = omega (arith, ways-small r 0 (a .present) (omega (arith, c .before .before .before .before .before .before .pre .1))) })
+      rw (more c) (record { fits = omega (arith, ways-small r 0 (a .present) (omega arith)) })
 
   loop-less : lts.Need-loop-less claims at ways.Post Inv-loop μ-loop
   loop-less c = search needs

@@ -1,18 +1,16 @@
 -- `ranking::bound` meets its contract. The loop's invariant: b is the bound of the symbols passed. Assumes nothing.
-use mathlib.Core.Path.{_≡_, refl, sym, ap, _∙_}
-use Prim.Native.Nat.{max, _+_, _≤_, _-_}
+use mathlib.Core.Path.{_≡_, refl, ap, _∙_}
+use Prim.Native.Nat.{_≤_, _-_}
 use native.Mathlib.Omega.{arith}
 use mir.Syntax.{w8}
 use mir.Val.{Fits}
 use lib.ListN.{length, take, getD}
 use Rattle.weak_orders.proofs.Parts.{part-more}
-use Rattle.weak_orders.proofs.Symbols.{bound as boundOf, bound-back}
+use Rattle.weak_orders.specs.Window.{bound as boundOf}
+use Rattle.weak_orders.proofs.Symbols.{bound-back}
 use borrow.Author.Needs.{needs}
 use Rattle.ranking.proofs.bound.Statement.{statement}
 use Rattle.ranking.proofs.bound.Tie as tie
-use Rattle.ranking.proofs.bound.Reads as reads
-use Rattle.ranking.proofs.bound.Lts as lts
-use Rattle.ranking.proofs.larger.Reads as larger-reads
 
 abbrev Inv-loop : tie.InvT-loop
 Inv-loop i w b₀ j₀ b j = (j ≤ i) × (b ≡ boundOf (take j w))

@@ -1,7 +1,7 @@
 -- `ranking::continuations` meets its contract. The loop's invariant: the first v counts are right, in terms of what was found out about
 -- the prefix (`Known`). Assumes nothing.
-use mathlib.Core.Path.{_≡_, refl, sym, ap, _∙_}
-use Prim.Native.Nat.{ℕ, suc, max, _+_, _-_, _≤_, _<_}
+use mathlib.Core.Path.{_≡_, refl, ap, _∙_}
+use Prim.Native.Nat.{_-_, _≤_}
 use native.Mathlib.Omega.{arith}
 use lib.ListN.{length, take, length-take}
 use Rattle.weak_orders.specs.Window.{different}
@@ -13,17 +13,10 @@ use Rattle.ranking.proofs.Tabled.{entries-more}
 use borrow.Author.Needs.{needs}
 use Rattle.ranking.proofs.continuations.Statement.{statement}
 use Rattle.ranking.proofs.continuations.Tie as tie
-use Rattle.ranking.proofs.continuations.Reads as reads
-use Rattle.ranking.proofs.continuations.Lts as lts
-use Rattle.ranking.proofs.bound.Reads as bound-reads
-use Rattle.ranking.proofs.larger.Reads as larger-reads
-use Rattle.ranking.proofs.ways_from.Reads as ways-from-reads
-use Rattle.ranking.proofs.with_symbol.Reads as with-symbol-reads
-use Rattle.weak_orders.proofs.counts.Reads as counts-reads
-use Rattle.weak_orders.proofs.different.Reads as different-reads
 
 abbrev Inv-loop : tie.InvT-loop
-Inv-loop n i present seen top totals counts₀ v₀ counts v = (v ≤ n) × (length counts ≡ 16) × Entries counts (counted seen top present totals) v
+Inv-loop n i present seen top totals counts₀ v₀ counts v =
+    (v ≤ n) × (length counts ≡ 16) × Entries counts (counted seen top present totals) v
 
 abbrev μ-loop : tie.MeasureT-loop
 μ-loop n i present seen top totals counts₀ v₀ counts v = n - v
@@ -87,7 +80,7 @@ larger-requires : tie.Need-larger-requires Inv-loop μ-loop
 larger-requires c κs = search needs
 
 sub-missing : tie.Need-sub-missing Inv-loop μ-loop
-sub-missing c = omega (arith, symbols≤top _ _ _ _ _ _ (known (c .before .before .before)), c .larger .ensures)
+sub-missing c = omega (arith, symbols≤top (known (c .before .before .before)), c .larger .ensures)
 
 array-read-with-symbol : tie.Need-array-read-with-symbol Inv-loop μ-loop
 array-read-with-symbol c = search needs
@@ -96,7 +89,7 @@ with-symbol-requires : tie.Need-with-symbol-requires Inv-loop μ-loop
 with-symbol-requires c κs =
     let K = known (c .before .before .before) in
     let v = c .before .before .loop .v in
-    rw (c .larger .ensures) (missing<17 _ _ _ _ _ _ K v (search needs), missing-itself _ _ _ _ _ _ K v (search needs), ways-fit _ _ _ _ _ _ K)
+    rw (c .larger .ensures) (missing<17 K v (search needs), missing-itself K v (search needs), ways-fit K)
 
 mul-counts : tie.Need-mul-counts Inv-loop μ-loop
 mul-counts c = search needs
@@ -121,7 +114,7 @@ loop-again c =
     (search needs, search needs, entries-more (c .before .before .before .loop .counts) f v (c .with-symbol .result) (omega arith) e was)
 
 returns : tie.Need-returns Inv-loop μ-loop
-returns c = λ v h. c .before .loop .inv .2 v (omega arith) ∙ counted-completions _ _ _ _ _ _ (known (c .before .before)) v h
+returns c = λ v h. c .before .loop .inv .2 v (omega arith) ∙ counted-completions (known (c .before .before)) v h
 
 pub continuations-spec : {M : Type 1} → statement M
 continuations-spec =

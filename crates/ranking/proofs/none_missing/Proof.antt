@@ -8,8 +8,6 @@ use Rattle.ranking.proofs.Size.{ways-small}
 use borrow.Author.Needs.{needs}
 use Rattle.ranking.proofs.none_missing.Statement.{statement}
 use Rattle.ranking.proofs.none_missing.Tie as tie
-use Rattle.ranking.proofs.none_missing.Reads as reads
-use Rattle.ranking.proofs.none_missing.Lts as lts
 
 abbrev Inv-loop : tie.InvT-loop
 Inv-loop rest present total₀ places₀ total places = (places ≤ rest) × (total ≡ ways places 0 present)

@@ -6,10 +6,6 @@ use Rattle.ranking.specs.declared.Placed.the-variants.{At}
 use borrow.Author.Needs.{needs}
 use Rattle.ranking.proofs.place.Statement.{statement}
 use Rattle.ranking.proofs.place.Tie as tie
-use Rattle.ranking.proofs.place.Reads as reads
-use Rattle.ranking.proofs.place.Lts as lts
-use Rattle.ranking.proofs.place_of.Reads as place-of-reads
-use Rattle.weak_orders.proofs.is_height.Reads as is-height-reads
 
 is-height-requires : tie.Need-is-height-requires
 is-height-requires c κs = search needs

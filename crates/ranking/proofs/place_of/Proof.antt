@@ -1,6 +1,6 @@
 -- `ranking::place_of` meets its contract. The loop's invariant: the sum of what the symbols passed add to the place. Assumes nothing.
-use mathlib.Core.Path.{_≡_, refl, sym, ap, _∙_}
-use Prim.Native.Nat.{ℕ, _+_, _-_, _≤_, _<_}
+use mathlib.Core.Path.{_≡_, refl, ap, _∙_}
+use Prim.Native.Nat.{_+_, _-_, _≤_}
 use native.Mathlib.Omega.{arith}
 use lib.ListN.{length, take, getD}
 use Rattle.weak_orders.proofs.FormTests.{of-height-window}
@@ -11,10 +11,6 @@ use Rattle.ranking.proofs.Sums.{sum-more}
 use borrow.Author.Needs.{needs}
 use Rattle.ranking.proofs.place_of.Statement.{statement}
 use Rattle.ranking.proofs.place_of.Tie as tie
-use Rattle.ranking.proofs.place_of.Reads as reads
-use Rattle.ranking.proofs.place_of.Lts as lts
-use Rattle.ranking.proofs.continuations.Reads as continuations-reads
-use Rattle.ranking.proofs.sum_below.Reads as sum-below-reads
 
 abbrev Inv-loop : tie.InvT-loop
 Inv-loop n w before₀ i₀ before i = (i ≤ n) × (n ≤ 16) × (before ≡ sum (placeAt (take n w)) i)
@@ -28,10 +24,12 @@ long s = search needs
 -- what the symbol at i adds
 added : (c : tie.After-continuations Inv-loop μ-loop) →
     let a = c .before .before .before .args in
-    sum (λ v. getD (c .continuations .result) v 0) (getD (a .t1) (c .before .before .loop .i) 0) ≡ placeAt (take (a .n) (a .t1)) (c .before .before .loop .i)
+    let i = c .before .before .loop .i in
+    sum (λ v. getD (c .continuations .result) v 0) (getD (a .t1) i 0) ≡ placeAt (take (a .n) (a .t1)) i
 added c =
     let s = c .before .before .before in
-    placed-at (s .args .t1) (s .args .n) (long s) (s .pre) (c .before .before .loop .i) (search needs) (c .continuations .result) (c .continuations .ensures)
+    placed-at (s .args .t1) (s .args .n) (long s) (s .pre) (c .before .before .loop .i) (search needs)
+    (c .continuations .result) (c .continuations .ensures)
 
 next : (c : tie.After-sum-below Inv-loop μ-loop) →
     let a = c .before .before .before .before .args in

@@ -1,16 +1,13 @@
 -- `ranking::sum_below` meets its contract. The loop's invariant: the total is the sum of the counts passed. Assumes nothing.
-use mathlib.Core.Path.{_≡_, refl, sym, ap, _∙_}
-use Prim.Native.Nat.{ℕ, suc, _+_, _≤_, _-_, _<_}
-use native.Mathlib.Numerals.{add-one}
+use mathlib.Core.Path.{_≡_, refl, ap, _∙_}
+use Prim.Native.Nat.{ℕ, _+_, _≤_, _-_}
 use native.Mathlib.Omega.{arith}
 use lib.ListN.{getD}
 use Rattle.ranking.specs.Counts.{sum}
-use Rattle.ranking.proofs.Sums.{sum-suc, sum-mono, sum-more}
+use Rattle.ranking.proofs.Sums.{sum-mono, sum-more}
 use borrow.Author.Needs.{needs}
 use Rattle.ranking.proofs.sum_below.Statement.{statement}
 use Rattle.ranking.proofs.sum_below.Tie as tie
-use Rattle.ranking.proofs.sum_below.Reads as reads
-use Rattle.ranking.proofs.sum_below.Lts as lts
 
 abbrev Inv-loop : tie.InvT-loop
 Inv-loop v counts total₀ u₀ total u = (u ≤ v) × (total ≡ sum (λ u. getD counts u 0) u)

@@ -1,6 +1,6 @@
 -- `ranking::symbol_at` meets its contract. The loop's invariant: the counts passed and the rest add up to the place. Assumes nothing.
-use mathlib.Core.Path.{_≡_, refl, sym, ap, _∙_}
-use Prim.Native.Nat.{ℕ, suc, _+_, _≤_, _-_, _<_}
+use mathlib.Core.Path.{_≡_}
+use Prim.Native.Nat.{ℕ, _+_, _-_, _<_}
 use native.Mathlib.Omega.{arith}
 use lib.ListN.{getD}
 use Rattle.ranking.specs.Counts.{sum}
@@ -8,8 +8,6 @@ use Rattle.ranking.proofs.Sums.{sum-zero, sum-more, sum-before}
 use borrow.Author.Needs.{needs}
 use Rattle.ranking.proofs.symbol_at.Statement.{statement}
 use Rattle.ranking.proofs.symbol_at.Tie as tie
-use Rattle.ranking.proofs.symbol_at.Reads as reads
-use Rattle.ranking.proofs.symbol_at.Lts as lts
 
 abbrev Inv-loop : tie.InvT-loop
 Inv-loop n left counts rest₀ v₀ rest v = (v < n) × (sum (λ u. getD counts u 0) v + rest ≡ left)

@@ -1,5 +1,6 @@
--- `ranking::ways_from` meets its contract. The loop's invariant: the total is the ways with m or more, and so is each entry from m on. Assumes nothing.
-use mathlib.Core.Path.{_≡_, refl, sym, ap, ap₂, _∙_}
+-- `ranking::ways_from` meets its contract. The loop's invariant: the total is the ways with m or more, and each entry from m on is
+-- such a total. Assumes nothing.
+use mathlib.Core.Path.{_≡_, refl, sym, ap}
 use Prim.Native.Nat.{ℕ, suc, _+_, _-_, _≤_, _<_}
 use native.Mathlib.Omega.{arith}
 use lib.ListN.{length, getD}
@@ -10,9 +11,6 @@ use Rattle.ranking.proofs.Tabled.{entries-set}
 use borrow.Author.Needs.{needs}
 use Rattle.ranking.proofs.ways_from.Statement.{statement}
 use Rattle.ranking.proofs.ways_from.Tie as tie
-use Rattle.ranking.proofs.ways_from.Reads as reads
-use Rattle.ranking.proofs.ways_from.Lts as lts
-use Rattle.ranking.proofs.ways.Reads as ways-reads
 
 abbrev Inv-loop : tie.InvT-loop
 Inv-loop rest present totals₀ total₀ m₀ totals total m =
@@ -53,7 +51,9 @@ next c =
 add-total : tie.Need-add-total Inv-loop μ-loop
 add-total c =
     let a = c .before .before .before .args in
-    record { fits = omega (arith, next c, waysFrom-small (a .rest) (c .before .before .loop .m - 1) (a .present) (omega (arith, c .before .before .before .pre))) }
+    let h = c .before .before .before .pre in
+    let small = waysFrom-small (a .rest) (c .before .before .loop .m - 1) (a .present) (omega arith) in
+    record { fits = omega (arith, next c, small) }
 
 mul-totals : tie.Need-mul-totals Inv-loop μ-loop
 mul-totals c = search needs

@@ -6,10 +6,6 @@ use Rattle.ranking.proofs.Answered.{says-place, within-count, past-coun
 use borrow.Author.Needs.{needs}
 use Rattle.ranking.proofs.window_at.Statement.{statement}
 use Rattle.ranking.proofs.window_at.Tie as tie
-use Rattle.ranking.proofs.window_at.Reads as reads
-use Rattle.ranking.proofs.window_at.Lts as lts
-use Rattle.ranking.proofs.weak_order_count.Reads as weak-order-count-reads
-use Rattle.ranking.proofs.window_of.Reads as window-of-reads
 
 returns : tie.Need-returns
 unfolding located

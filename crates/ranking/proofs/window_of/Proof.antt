@@ -1,9 +1,9 @@
 -- `ranking::window_of` meets its contract. The loop's invariant: the array holds the first i symbols of the window, and `left` is its place
 -- among the windows that begin so. Assumes nothing.
-use mathlib.Core.Path.{_≡_, refl, sym, ap, _∙_}
-use Prim.Native.Nat.{ℕ, _+_, _-_, _≤_, _<_}
+use mathlib.Core.Path.{_≡_}
+use Prim.Native.Nat.{_-_, _≤_}
 use native.Mathlib.Omega.{arith}
-use lib.ListN.{length, take}
+use lib.ListN.{take}
 use Rattle.weak_orders.specs.Window.{padded}
 use Rattle.weak_orders.proofs.Padded.{padded-nil, padded-all}
 use Rattle.ranking.specs.Dictionary.{windowAt}
@@ -13,13 +13,10 @@ use Rattle.ranking.proofs.WindowAt.{Reached, reached-start}
 use borrow.Author.Needs.{needs}
 use Rattle.ranking.proofs.window_of.Statement.{statement}
 use Rattle.ranking.proofs.window_of.Tie as tie
-use Rattle.ranking.proofs.window_of.Reads as reads
-use Rattle.ranking.proofs.window_of.Lts as lts
-use Rattle.ranking.proofs.continuations.Reads as continuations-reads
-use Rattle.ranking.proofs.symbol_at.Reads as symbol-at-reads
 
 abbrev Inv-loop : tie.InvT-loop
-Inv-loop n place window₀ left₀ i₀ window left i = (i ≤ n) × (window ≡ padded (take i (windowAt n place))) × Reached n (windowAt n place) i left
+Inv-loop n place window₀ left₀ i₀ window left i =
+    (i ≤ n) × (window ≡ padded (take i (windowAt n place))) × Reached n (windowAt n place) i left
 
 abbrev μ-loop : tie.MeasureT-loop
 μ-loop n place window₀ left₀ i₀ window left i = n - i

@@ -1,12 +1,9 @@
 -- `ranking::with_symbol` meets its contract: an answer for each case. Assumes nothing.
-use mathlib.Core.Path.{_≡_}
-use Prim.Native.Nat.{_≤_, _-_, _<_}
+use Prim.Native.Nat.{_-_}
 use native.Mathlib.Omega.{arith}
 use borrow.Author.Needs.{needs}
 use Rattle.ranking.proofs.with_symbol.Statement.{statement}
 use Rattle.ranking.proofs.with_symbol.Tie as tie
-use Rattle.ranking.proofs.with_symbol.Reads as reads
-use Rattle.ranking.proofs.with_symbol.Lts as lts
 
 mul-result : tie.Need-mul-result
 mul-result c = search needs

@@ -1,9 +1,9 @@
 -- `give`: refused, or stored. Assumes nothing.
-use lib.Seq.{length-take-le}
-use lib.ListN.{length}
 use mathlib.Core.Path.{_≡_}
-use borrow.Author.Tests.{not-true, not-false}
 use native.Mathlib.Omega.{arith}
+use lib.ListN.{length}
+use lib.Seq.{length-take-le}
+use borrow.Author.Tests.{not-true, not-false}
 use Rattle.wko.specs.Calls.{given, refuse, accept}
 use borrow.Author.Needs.{needs}
 use Rattle.wko.proofs.give.Statement.{statement}
@@ -14,9 +14,7 @@ refused-requires c κs = search needs
 
 returns : tie.Need-returns
 unfolding given refuse
-returns c =
-    let v = c .before .before .before .before .args .converted in
-    rw (not-true (v .done) (c .before .if1 .taken), c .refused .ensures)
+returns c = rw (not-true (c .before .before .before .args .done) (c .before .if1 .taken), c .refused .ensures)
 
 store-requires : tie.Need-store-requires
 store-requires c κs = search needs
@@ -27,12 +25,12 @@ same-length c = search needs
 returns-2 : tie.Need-returns-2
 unfolding given accept
 returns-2 c =
-    let a = c .before .before .before .before .before .before .before .before .args in
-    let l : length (a .converted .window) ≡ 16 = search needs in
+    let a = c .before .before .before .before .before .before .args in
+    let l : length (a .w) ≡ 16 = search needs in
     rw (
-      not-false (a .converted .done) (c .before .before .before .before .before .if1 .left),
+      not-false (a .done) (c .before .before .before .before .if1 .left),
       c .before .before .store .ensures,
-      length-take-le (a .n) (a .converted .window) (omega arith),
+      length-take-le (a .n) (a .w) (omega arith),
     )
 
 pub give-spec : {M : Type 1} → statement M
