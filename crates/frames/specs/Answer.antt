@@ -11,6 +11,7 @@ use Rattle.frames.specs.declared.level.Setting.{Setting}
 use Rattle.frames.specs.Fields.{bytes32, bytes64, bits32}
 use Rattle.frames.specs.Level.{levelOf}
 
+-- a reply that is no refusal
 unfoldable pub accepted : Reply → Bool
 accepted (Accepted symbol level) = true
 accepted (Refused cause) = false

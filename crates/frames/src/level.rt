@@ -43,7 +43,7 @@ pub fn level(rule: u8, setting: Setting, symbol: u8) -> i32
 
 // Test 9, for a number of symbols that passes test 6.
 pub fn setting_ok(n: usize, setting: Setting) -> bool
-    ensures { λ r. ⌜ r ≡ isLength n && settingOk n setting ⌝ }
+    ensures { λ r. ⌜ r ≡ (isLength n && settingOk n setting) ⌝ }
 {
     if n < 1 {
         return false;

@@ -8,11 +8,11 @@ use lib.Dec.{leb, eqb}
 use lib.ListN.{length, take, drop}
 use lib.Seq.{length-take-le, getD-take, take-length}
 use borrow.Author.Tests.{le-ltb, le-leb, eq-eqb, ne-eqb}
-use Rattle.weak_orders.specs.Window.{different, height, padded}
+use Rattle.weak_orders.specs.Window.{different, height, bound, padded}
 use Rattle.weak_orders.proofs.Bits.{different-ones}
 use Rattle.weak_orders.proofs.HeightForm.{height-bound}
 use Rattle.weak_orders.proofs.RankForm.{says-rank, rank-le-length}
-use Rattle.weak_orders.proofs.Symbols.{bound, bound-find}
+use Rattle.weak_orders.proofs.Symbols.{bound-find}
 use Rattle.weak_orders.proofs.Tests.{by-test}
 use Rattle.ranking.specs.Counts.{a}
 use Rattle.successors.specs.Rules.{inForm}

@@ -24,7 +24,7 @@ use Rattle.stepper.specs.Exchange.{hasBegun, refuse, roundIn, onward, st
 use Rattle.stepper.specs.TwoBenches.{Arrival, passes, isNext, isResend, accepts, roundOf, causeAt}
 use Rattle.stepper.specs.TwoBenches.{startOf, windowAfter, sessionAt, beginOk}
 use Rattle.stepper.proofs.Begun.{RoundOk, says-round, says-begun}
-use Rattle.stepper.proofs.Handling.{outer, inner}
+use Rattle.stepper.proofs.Handling.{frame-tests, number-tests}
 
 -- What an accepted begin frame is known by.
 pub record Good (g : List ℕ) : Type 0 where
@@ -91,8 +91,8 @@ module _ (g : List ℕ) (G : Good g) where
   step-handled c le x l kind =
       let f = x .frame in
       rw (kind, begun-at c le, onward-at c, le-leb 40 (x .room) l, le-ltb (x .room) 40 l)
-      (outer (refuse (sessionAt g c)) _ _ _ _ _ (eqb (length f) 40) (isQuestion f) (reservedS f)
-      (inner (refuse (sessionAt g c)) (sessionAt g) stepped c (numberIn f) (a (lengthIn g)) le))
+      (frame-tests (refuse (sessionAt g c)) _ _ _ _ _ (eqb (length f) 40) (isQuestion f) (reservedS f)
+      (number-tests (refuse (sessionAt g c)) (sessionAt g) stepped c (numberIn f) (a (lengthIn g)) le))
 
 -- Without room the count does not accept, and the cause is that.
 pub short-refused : (end c : ℕ) (x : Arrival) → x .room < 40 → (accepts end c x ≡ false) × (causeAt c x ≡ ShortBuffer)

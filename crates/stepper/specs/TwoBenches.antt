@@ -44,6 +44,7 @@ unfoldable pub isResend : ℕ → Arrival → Bool
 unfolding passes numberIn
 isResend c x = passes x && (eqb (numberIn (x .frame)) c && leb 1 (numberIn (x .frame)))
 
+-- accepted at the count c: as the next step, or as a resend
 unfoldable pub accepts : ℕ → ℕ → Arrival → Bool
 unfolding isNext isResend
 accepts end c x = isNext end c x || isResend c x
@@ -63,6 +64,7 @@ unfoldable pub roundOf : List ℕ → ℕ
 unfolding a
 roundOf g = a (lengthIn g)
 
+-- the count after the begin frame and a list of frames
 unfoldable pub countOf : List ℕ → List Arrival → ℕ
 unfolding countFrom roundOf
 countOf g = countFrom (roundOf g) 0
