@@ -6,12 +6,21 @@ use Prim.Native.Nat.{ℕ, suc, _+_, _-_, _≤_, _<_}
 use native.Mathlib.Numerals.{add-one}
 use native.Mathlib.Omega.{arith}
 use lib.Dec.{eqb}
-use lib.ListN.{length}
+use lib.ListN.{length, drop, drop-of-length-le}
 use lib.Seq.{drop-cons}
 use Rattle.weak_orders.specs.Window.{all}
 use Rattle.weak_orders.specs.Says.{Says}
 use Rattle.weak_orders.proofs.Tests.{says-as, says-and, says-eq}
 use Rattle.frames.specs.Fields.{byte, part, zeros, sameBytes}
+
+-- the bytes from i on are zero just if the first is, and those behind it
+pub zeros-drop : (f : List ℕ) (i : ℕ) → i < length f → zeros (drop i f) ≡ (eqb 0 (byte f i) && zeros (drop (i + 1) f))
+unfolding zeros all
+zeros-drop f i h = rw (drop-cons f i 0 h, add-one i)
+
+pub zeros-none : (f : List ℕ) (i : ℕ) → length f ≤ i → zeros (drop i f) ≡ true
+unfolding zeros all
+zeros-none f i h = rw (drop-of-length-le f h)
 
 -- the bytes from i up to `end` are zero just if the first is, and those behind it
 pub zeros-next : (f : List ℕ) (i end : ℕ) → i < end → end ≤ length f →
@@ -22,11 +31,15 @@ zeros-next f i end lt le =
     let h : i < length f = omega arith in
     rw (k, drop-cons f i 0 h, add-one i)
 
+-- a test that fails says what does not hold
+never : {A : Type 0} → ¬ A → Says false A
+never n = record { to = λ t. absurd (false≢true t); of = λ h. absurd (n h) }
+
 pub says-same-bytes : (u v : List ℕ) → Says (sameBytes u v) (u ≡ v)
 unfolding sameBytes
 says-same-bytes [] [] = record { to = λ t. refl; of = λ e. refl }
-says-same-bytes [] (y ∷ v) = record { to = λ t. absurd (false≢true t); of = λ e. absurd (let z : _≡_ {A = ℕ} 0 1 = cc in omega arith) }
-says-same-bytes (x ∷ u) [] = record { to = λ t. absurd (false≢true t); of = λ e. absurd (let z : _≡_ {A = ℕ} 0 1 = cc in omega arith) }
+says-same-bytes [] (y ∷ v) = never (λ e. let z : _≡_ {A = ℕ} 0 1 = cc in omega arith)
+says-same-bytes (x ∷ u) [] = never (λ e. let z : _≡_ {A = ℕ} 0 1 = cc in omega arith)
 says-same-bytes (x ∷ u) (y ∷ v) = says-as (says-and (says-eq x y) (says-same-bytes u v))
     (λ h. ap₂ _∷_ (h .0) (h .1))
     (λ e. (head-eq-of-cons-eq e, tail-eq-of-cons-eq e))

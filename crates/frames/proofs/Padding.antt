@@ -4,7 +4,6 @@ use mathlib.Core.List.{List, _++_, append-nil}
 use mathlib.Core.Path.{_≡_, refl, sym, ap, _∙_}
 use Prim.Native.Nat.{ℕ, zero, suc, _+_, _-_, _≤_}
 use native.Mathlib.Omega.{arith}
-use lib.Dec.{eqb}
 use lib.ListN.{length, take, drop, drop-of-length-le, replicate, length-drop, take-append-drop}
 use lib.Seq.{length-take-le, take-length}
 use Rattle.weak_orders.specs.Window.{all, padded}

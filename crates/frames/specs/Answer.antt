@@ -2,7 +2,7 @@
 use mathlib.Core.Bool.{Bool, true, false}
 use mathlib.Core.List.{List, [], _∷_, _++_}
 use Prim.Native.Nat.{ℕ, _-_}
-use lib.IntN.{ℤ, pos}
+use lib.IntN.{pos}
 use lib.ListN.{length, getD, replicate}
 use Rattle.refusals.specs.Numbers.{causeNumber}
 use Rattle.frames.specs.declared.answer.Reply.{Reply}
@@ -11,6 +11,7 @@ use Rattle.frames.specs.declared.level.Setting.{Setting}
 use Rattle.frames.specs.Fields.{bytes32, bytes64, bits32}
 use Rattle.frames.specs.Level.{levelOf}
 
+-- a reply that is no refusal
 unfoldable pub accepted : Reply → Bool
 accepted (Accepted symbol level) = true
 accepted (Refused cause) = false

@@ -2,7 +2,7 @@
 ghost use mathlib.Core.List.{_++_, [], _∷_};
 ghost use mathlib.Core.Path.{_≡_};
 ghost use lib.ListN.{take, drop, replicate};
-ghost use Rattle.frames.specs.Fields.{bytes32, bytes64, bits32};
+ghost use Rattle.frames.specs.Fields.{bytes32, bytes64};
 ghost use Rattle.frames.specs.Answer.{wka1, answerBytes};
 ghost use Rattle.refusals.specs.Numbers.{causeNumber};
 use crate::field;

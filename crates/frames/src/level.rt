@@ -1,7 +1,7 @@
 // The level setting of a round, and the level of a symbol.
 ghost use mathlib.Core.Bool.{_&&_};
 ghost use mathlib.Core.Path.{_≡_};
-ghost use Prim.Native.Nat.{_-_, _*_, _≤_};
+ghost use Prim.Native.Nat.{_*_};
 ghost use lib.IntN.{pos, _-ℤ_};
 ghost use Rattle.weak_orders.specs.Window.{isLength};
 ghost use Rattle.frames.specs.Level.{spacings, levelOf, settingOk};
@@ -43,7 +43,7 @@ pub fn level(rule: u8, setting: Setting, symbol: u8) -> i32
 
 // Test 9, for a number of symbols that passes test 6.
 pub fn setting_ok(n: usize, setting: Setting) -> bool
-    ensures { λ r. ⌜ r ≡ isLength n && settingOk n setting ⌝ }
+    ensures { λ r. ⌜ r ≡ (isLength n && settingOk n setting) ⌝ }
 {
     if n < 1 {
         return false;

@@ -1,16 +1,15 @@
 -- What a session that counts as begun is known by, and that an accepted frame leaves such a session. Assumes nothing.
 use mathlib.Core.Bool.{Bool, true, false, cond, not, _&&_, _||_, false≢true}
 use mathlib.Core.List.{List}
-use mathlib.Core.Path.{_≡_, refl, sym, ap, subst, _∙_}
+use mathlib.Core.Path.{_≡_, refl, sym, _∙_}
 use Prim.Native.Nat.{ℕ, _+_, _≤_, _<_}
 use native.Mathlib.Omega.{arith}
-use native.Mathlib.Decide.{ℕ-discrete}
-use lib.Dec.{leb, eqb}
+use lib.Dec.{eqb}
 use lib.ListN.{length, take, drop}
 use lib.Seq.{length-take-le}
-use borrow.Author.Tests.{leb-true, le-leb, eqb-false, not-false}
+use borrow.Author.Tests.{eqb-false, not-false}
 use Rattle.weak_orders.specs.Says.{Says}
-use Rattle.weak_orders.specs.Window.{isLength, padded, shifted}
+use Rattle.weak_orders.specs.Window.{isLength}
 use Rattle.weak_orders.proofs.Padded.{take-padded, shifted-length}
 use Rattle.weak_orders.proofs.Tests.{by-test, says-and, says-as, says-itself}
 use Rattle.ranking.specs.Counts.{a}
@@ -19,20 +18,22 @@ use Rattle.successors.proofs.StepForm.{step-in-form}
 use Rattle.refusals.specs.declared.Cause.{Cause}
 use Rattle.refusals.specs.declared.Cause.the-variants.{FrameLength, FrameHeader, FrameKind, ReservedByte, WindowLength, RuleNumber}
 use Rattle.refusals.specs.declared.Cause.the-variants.{NotWeakOrder, LevelSetting, NotBegun, StepNumber, RoundFinished}
-use Rattle.frames.specs.declared.answer.Reply.{Reply}
 use Rattle.frames.specs.declared.answer.Reply.the-variants.{Refused}
 use Rattle.frames.specs.declared.level.Setting.{Setting}
 use Rattle.frames.specs.Fields.{zeros}
 use Rattle.frames.specs.Level.{settingOk}
 use Rattle.frames.specs.Question.{isQuestion, kindIn, letterB, letterS, letterQ, numberIn, reservedB, reservedS, reservedQ}
-use Rattle.frames.specs.Answer.{accepted, stepReply, stateReply}
+use Rattle.frames.specs.Answer.{accepted, stateReply}
+use Rattle.frames.proofs.Differences.{says-le}
 use Rattle.frames.proofs.Padding.{unused-padded}
-use Rattle.stepper.specs.declared.Exchanged.{Exchanged}
-use Rattle.stepper.specs.declared.Session.{Session}
-use Rattle.stepper.specs.Exchange.{windowOk, beginReply, hasBegun, refuse, roundIn, beginFrame, onward, stepped, stepOf, queryOf, handle}
+use Rattle.stepper.specs.declared.session.Exchanged.{Exchanged}
+use Rattle.stepper.specs.declared.session.Session.{Session}
+use Rattle.stepper.specs.Exchange.{windowOk, beginReply, hasBegun, refuse, roundIn, beginFrame}
+use Rattle.stepper.specs.Exchange.{onward, stepped, stepOf, stepFrame, queryOf, queryFrame, handle}
 
-pub says-le : (m n : ℕ) → Says (leb m n) (m ≤ n)
-says-le m n = record { to = leb-true m n; of = le-leb m n }
+pub says-length : (n : ℕ) → Says (isLength n) ((1 ≤ n) × (n ≤ 16))
+unfolding isLength
+says-length n = says-and (says-le 1 n) (says-le n 16)
 
 -- What tests 6 to 9 say of a round.
 pub record RoundOk (n rule : ℕ) (window : List ℕ) (setting : Setting) : Type 0 where
@@ -45,10 +46,11 @@ pub record RoundOk (n rule : ℕ) (window : List ℕ) (setting : Setting) : Type
 
 pub says-round : (n rule : ℕ) (window : List ℕ) (setting : Setting) →
     Says (isLength n && (isRule rule && (windowOk n rule window && settingOk n setting))) (RoundOk n rule window setting)
-unfolding isLength windowOk
+unfolding windowOk
 says-round n rule window setting = says-as
-    (says-and (says-and (says-le 1 n) (says-le n 16)) (says-and (says-itself (isRule rule))
-    (says-and (says-and (says-itself (inForm rule (take n window))) (says-itself (zeros (drop n window)))) (says-itself (settingOk n setting)))))
+    (says-and (says-length n) (says-and (says-itself (isRule rule)) (says-and
+    (says-and (says-itself (inForm rule (take n window))) (says-itself (zeros (drop n window))))
+    (says-itself (settingOk n setting)))))
     (λ ((low, high), (known, ((form, unused), levels))).
     record { low = low; high = high; known = known; form = form; unused = unused; levels = levels })
     (λ r. ((r .low, r .high), (r .known, ((r .form, r .unused), r .levels))))
@@ -150,7 +152,7 @@ module _ (s : Session) (l : length (s .window) ≡ 16) where
           (λ next. rw next b)
 
   pub handle-leaves : (f : List ℕ) → accepted (handle s f .reply) ≡ true → Begun (handle s f .session)
-  unfolding handle queryOf
+  unfolding handle stepFrame queryFrame queryOf
   handle-leaves f = (
       leaves-cond (not (eqb (length f) 40)) (λ e. leaves-refused s FrameLength) (λ e.
       leaves-cond (not (isQuestion f)) (λ e. leaves-refused s FrameHeader) (λ e.
@@ -159,5 +161,6 @@ module _ (s : Session) (l : length (s .window) ≡ 16) where
       (λ e. leaves-cond (not (reservedS f)) (λ e. leaves-refused s ReservedByte) (λ e. step-leaves (numberIn f))) (λ e.
       leaves-cond (eqb (kindIn f) letterQ)
       (λ e. leaves-cond (not (reservedQ f)) (λ e. leaves-refused s ReservedByte) (λ e.
-      leaves-cond (not (hasBegun s)) (λ e. leaves-refused s NotBegun) (λ e. record { begun = λ t. says-begun s .to (not-false (hasBegun s) e) })))
+      leaves-cond (not (hasBegun s)) (λ e. leaves-refused s NotBegun) (λ e.
+      record { begun = λ t. says-begun s .to (not-false (hasBegun s) e) })))
       (λ e. leaves-refused s FrameKind)))))) .begun

@@ -1,8 +1,8 @@
 -- The count of step frames: what it accepts, and how it grows. Assumes nothing.
-use mathlib.Core.Bool.{true, false, cond, false≢true}
+use mathlib.Core.Bool.{true, false, false≢true}
 use mathlib.Core.List.{List, [], _∷_, map}
 use mathlib.Core.Option.{some}
-use mathlib.Core.Path.{_≡_, refl, sym, ap, _∙_}
+use mathlib.Core.Path.{_≡_, refl, ap, _∙_}
 use Prim.Native.Nat.{ℕ, zero, suc, _+_, _≤_, _<_}
 use native.Mathlib.Omega.{arith}
 use lib.ListN.{length, take, getElem?}
@@ -10,7 +10,7 @@ use Rattle.weak_orders.specs.Says.{Says}
 use Rattle.weak_orders.proofs.Tests.{by-test, says-and, says-itself, says-eq}
 use Rattle.frames.specs.Question.{numberIn}
 use Rattle.stepper.specs.TwoBenches.{Arrival, passes, isNext, isResend, accepts, counted, countFrom, Request, arrival}
-use Rattle.stepper.proofs.Begun.{says-le}
+use Rattle.frames.proofs.Differences.{says-le}
 
 -- The three things that the count can say of a step frame.
 pub data Verdict (end c : ℕ) (x : Arrival) : Type 0 where

@@ -7,20 +7,19 @@ use native.Mathlib.Omega.{arith}
 use native.Mathlib.Decide.{decLt, ℕ-discrete}
 use lib.Dec.{leb, ltb, eqb}
 use lib.ListN.{length, drop}
-use borrow.Author.Tests.{ltb-true, ltb-false, lt-ltb, le-ltb, le-leb, lt-leb, eq-eqb, ne-eqb}
+use borrow.Author.Tests.{lt-ltb, le-ltb, le-leb, lt-leb, eq-eqb, ne-eqb}
 use Rattle.weak_orders.specs.Window.{isLength}
 use Rattle.weak_orders.proofs.Tests.{by-test}
 use Rattle.successors.specs.Rules.{isRule}
 use Rattle.refusals.specs.declared.Cause.{Cause}
-use Rattle.refusals.specs.declared.Cause.the-variants.{ShortBuffer, FrameLength, FrameHeader, ReservedByte, WindowLength}
-use Rattle.refusals.specs.declared.Cause.the-variants.{RuleNumber, NotWeakOrder, LevelSetting, StepNumber, RoundFinished}
+use Rattle.refusals.specs.declared.Cause.the-variants.{ShortBuffer, FrameLength, FrameHeader, ReservedByte}
+use Rattle.refusals.specs.declared.Cause.the-variants.{StepNumber, RoundFinished}
 use Rattle.frames.specs.declared.answer.Reply.{Reply}
-use Rattle.frames.specs.declared.answer.Reply.the-variants.{Refused}
 use Rattle.frames.specs.Level.{settingOk}
 use Rattle.frames.specs.Question.{isQuestion, kindIn, letterB, lengthIn, ruleIn, settingIn, windowIn, reservedB}
-use Rattle.frames.specs.Answer.{accepted, stateReply}
-use Rattle.stepper.specs.declared.Exchanged.{Exchanged}
-use Rattle.stepper.specs.declared.Session.{Session}
+use Rattle.frames.specs.Answer.{accepted}
+use Rattle.stepper.specs.declared.session.Exchanged.{Exchanged}
+use Rattle.stepper.specs.declared.session.Session.{Session}
 use Rattle.stepper.specs.Exchange.{windowOk, beginReply, refuse, roundIn, beginFrame, handle, answerTo, Outcome, exchange}
 use Rattle.stepper.specs.TwoBenches.{beginOk, BeginAccepted}
 use Rattle.stepper.proofs.Begun.{begin-judged}
@@ -75,24 +74,24 @@ unfolding written
 begin-accepted s g buffer kind l = ap (λ (o : Outcome). accepted (o .0 .reply)) (room s g buffer l) ∙ begin-handled s g kind .0
 
 -- Step frames: tests 2, 3 and 5, which are the count's too.
-pub outer : (R : Cause → Exchanged) (x y : Exchanged) (p q : Bool) (c : Cause) (t₂ t₃ t₅ : Bool) → x ≡ cond (p || q) y (R c) →
+pub frame-tests : (R : Cause → Exchanged) (x y : Exchanged) (p q : Bool) (c : Cause) (t₂ t₃ t₅ : Bool) → x ≡ cond (p || q) y (R c) →
     cond (not t₂) (R FrameLength) (
     cond (not t₃) (R FrameHeader) (
     cond (not t₅) (R ReservedByte) x))
     ≡ cond ((t₂ && (t₃ && t₅)) && p || (t₂ && (t₃ && t₅)) && q) y
     (R (cond (not t₂) FrameLength (cond (not t₃) FrameHeader (cond (not t₅) ReservedByte c))))
-outer R x y p q c false t₃ t₅ e = refl
-outer R x y p q c true false t₅ e = refl
-outer R x y p q c true true false e = refl
-outer R x y p q c true true true e = e
+frame-tests R x y p q c false t₃ t₅ e = refl
+frame-tests R x y p q c true false t₅ e = refl
+frame-tests R x y p q c true true false e = refl
+frame-tests R x y p q c true true true e = e
 
 -- Tests 11 and 12, against the count's words.
-pub inner : (R : Cause → Exchanged) (session : ℕ → Session) (accept : Session → Exchanged) (c k end : ℕ) → c ≤ end →
+pub number-tests : (R : Cause → Exchanged) (session : ℕ → Session) (accept : Session → Exchanged) (c k end : ℕ) → c ≤ end →
     cond (eqb k 0 || not (eqb k c || eqb k (c + 1))) (R StepNumber) (
     cond (eqb k (c + 1) && eqb c end) (R RoundFinished) (
     accept (cond (eqb k (c + 1)) (session (c + 1)) (session c))))
     ≡ cond (eqb k (c + 1) && leb k end || eqb k c && leb 1 k) (accept (session k)) (R (cond (eqb k (c + 1)) RoundFinished StepNumber))
-inner R session accept c k end le = elim (ℕ-discrete k (c + 1)) [
+number-tests R session accept c k end le = elim (ℕ-discrete k (c + 1)) [
   | yes e ↦
       let no-resend = ne-eqb k c (omega arith) in
       let positive = ne-eqb k 0 (omega arith) in

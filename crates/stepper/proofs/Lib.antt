@@ -1,6 +1,8 @@
 pub mod Begun
+pub mod Cases
 pub mod Handling
 pub mod Standing
 pub mod Counting
 pub mod TwoBenches
+pub mod WindowLevels
 pub mod Worked

@@ -1,32 +1,30 @@
 -- The session that stands at k steps after an accepted begin frame, and what a step frame does to it. Assumes nothing.
-use mathlib.Core.Bool.{Bool, true, false, cond, not}
+use mathlib.Core.Bool.{true, false, cond}
 use mathlib.Core.List.{List}
-use mathlib.Core.Path.{_≡_, refl, sym, ap, _∙_}
-use Prim.Native.Nat.{ℕ, zero, suc, _+_, _≤_, _<_}
+use mathlib.Core.Path.{_≡_, refl}
+use Prim.Native.Nat.{ℕ, _+_, _≤_, _<_}
 use native.Mathlib.Numerals.{add-one}
 use native.Mathlib.Omega.{arith}
-use lib.Dec.{leb, ltb, eqb}
+use lib.Dec.{eqb}
 use lib.ListN.{length, take, drop, length-drop}
 use lib.Seq.{length-take-le}
-use borrow.Author.Tests.{leb-true, le-leb, lt-leb, lt-ltb, le-ltb}
-use Rattle.weak_orders.specs.Window.{iter, isLength, padded}
-use Rattle.weak_orders.specs.Says.{Says}
+use borrow.Author.Tests.{le-leb, lt-leb, lt-ltb, le-ltb}
+use Rattle.weak_orders.specs.Window.{iter, padded}
 use Rattle.weak_orders.proofs.Padded.{take-padded}
 use Rattle.weak_orders.proofs.Tests.{says-and, says-itself, says-eq}
 use Rattle.ranking.specs.Counts.{a}
-use Rattle.successors.specs.Rules.{ruleOf, inForm, isRule, step}
+use Rattle.successors.specs.Rules.{ruleOf, step}
 use Rattle.universal_cycle.specs.Round.{Tour, WeakOrder}
 use Rattle.universal_cycle.proofs.Rounds.{universal-cycle}
 use Rattle.refusals.specs.declared.Cause.the-variants.{ShortBuffer}
-use Rattle.frames.specs.Fields.{part, zeros}
-use Rattle.frames.specs.Level.{settingOk}
+use Rattle.frames.specs.Fields.{part}
 use Rattle.frames.specs.Question.{isQuestion, kindIn, letterB, letterS, lengthIn, ruleIn, numberIn, settingIn, windowIn, reservedB, reservedS}
-use Rattle.frames.specs.Answer.{accepted}
 use Rattle.frames.proofs.Padding.{unused-padded, padded-take}
-use Rattle.stepper.specs.Exchange.{windowOk, beginReply, hasBegun, refuse, roundIn, onward, stepped, stepOf, handle}
-use Rattle.stepper.specs.TwoBenches.{Arrival, passes, isNext, isResend, accepts, roundOf, causeAt, startOf, windowAfter, sessionAt, beginOk}
+use Rattle.stepper.specs.Exchange.{hasBegun, refuse, roundIn, onward, stepped, stepOf, stepFrame, handle}
+use Rattle.stepper.specs.TwoBenches.{Arrival, passes, isNext, isResend, accepts, roundOf, causeAt}
+use Rattle.stepper.specs.TwoBenches.{startOf, windowAfter, sessionAt, beginOk}
 use Rattle.stepper.proofs.Begun.{RoundOk, says-round, says-begun}
-use Rattle.stepper.proofs.Handling.{outer, inner}
+use Rattle.stepper.proofs.Handling.{frame-tests, number-tests}
 
 -- What an accepted begin frame is known by.
 pub record Good (g : List ℕ) : Type 0 where
@@ -70,7 +68,7 @@ module _ (g : List ℕ) (G : Good g) where
   unfolding onward sessionAt windowAfter iter
   onward-at k = rw (held k, add-one k)
 
-  begun-at : (k : ℕ) → k ≤ roundOf g → hasBegun (sessionAt g k) ≡ true
+  pub begun-at : (k : ℕ) → k ≤ roundOf g → hasBegun (sessionAt g k) ≡ true
   unfolding sessionAt roundOf
   begun-at k le = says-begun (sessionAt g k) .of (record {
     flag = refl;
@@ -89,12 +87,12 @@ module _ (g : List ℕ) (G : Good g) where
   pub step-handled : (c : ℕ) → c ≤ roundOf g → (x : Arrival) → 40 ≤ x .room → kindIn (x .frame) ≡ letterS →
       handle (sessionAt g c) (x .frame)
       ≡ cond (accepts (roundOf g) c x) (stepped (sessionAt g (numberIn (x .frame)))) (refuse (sessionAt g c) (causeAt c x))
-  unfolding handle stepOf accepts isNext isResend passes causeAt roundOf sessionAt
+  unfolding handle stepFrame stepOf accepts isNext isResend passes causeAt roundOf sessionAt
   step-handled c le x l kind =
       let f = x .frame in
       rw (kind, begun-at c le, onward-at c, le-leb 40 (x .room) l, le-ltb (x .room) 40 l)
-      (outer (refuse (sessionAt g c)) _ _ _ _ _ (eqb (length f) 40) (isQuestion f) (reservedS f)
-      (inner (refuse (sessionAt g c)) (sessionAt g) stepped c (numberIn f) (a (lengthIn g)) le))
+      (frame-tests (refuse (sessionAt g c)) _ _ _ _ _ (eqb (length f) 40) (isQuestion f) (reservedS f)
+      (number-tests (refuse (sessionAt g c)) (sessionAt g) stepped c (numberIn f) (a (lengthIn g)) le))
 
 -- Without room the count does not accept, and the cause is that.
 pub short-refused : (end c : ℕ) (x : Arrival) → x .room < 40 → (accepts end c x ≡ false) × (causeAt c x ≡ ShortBuffer)

@@ -1,29 +1,29 @@
 -- Two sessions, one round: the proof of demand 3. Assumes nothing.
-use mathlib.Core.Bool.{true, false, cond, false≢true}
-use mathlib.Core.List.{List, [], _∷_, _++_, map}
+use mathlib.Core.Bool.{true, false, false≢true}
+use mathlib.Core.List.{List, [], _∷_, map}
 use mathlib.Core.Option.{some}
 use mathlib.Core.Path.{_≡_, refl, sym, ap, _∙_, subst}
 use Prim.Native.Nat.{ℕ, zero, suc, _+_, _-_, _≤_, _<_}
 use native.Mathlib.Omega.{arith}
 use native.Mathlib.Decide.{decLt}
-use lib.ListN.{length, take, drop, replicate, getElem?}
+use lib.ListN.{length, take, drop, getElem?}
 use lib.Seq.{take-at, drop-at, take-length}
-use Rattle.weak_orders.specs.Window.{padded}
 use Rattle.weak_orders.proofs.Padded.{length-padded}
 use Rattle.weak_orders.proofs.Tests.{by-test}
 use Rattle.refusals.specs.declared.Cause.{Cause}
 use Rattle.refusals.specs.declared.Cause.the-variants.{ShortBuffer}
 use Rattle.frames.specs.Question.{kindIn, letterB, letterS, numberIn}
 use Rattle.frames.specs.Answer.{accepted, answerBytes, stepReply}
-use Rattle.stepper.specs.declared.Exchanged.{Exchanged}
-use Rattle.stepper.specs.declared.Session.{Session}
+use Rattle.stepper.specs.declared.session.Exchanged.{Exchanged}
+use Rattle.stepper.specs.declared.session.Session.{Session}
 use Rattle.stepper.specs.Exchange.{refuse, stepped, answerTo, Outcome, exchange}
-use Rattle.stepper.specs.TwoBenches.{Arrival, isNext, accepts, counted, countFrom, roundOf, countOf, causeAt, windowAfter, sessionAt}
+use Rattle.stepper.specs.TwoBenches.{isNext, accepts, counted, countFrom, roundOf, countOf, causeAt, windowAfter, sessionAt}
 use Rattle.stepper.specs.TwoBenches.{replyAt, answerAt, Request, arrival, run, after, InOrder, StepFrames, Position, Answered}
 use Rattle.stepper.specs.TwoBenches.{TurnedDown, SameAnswer, numbersAfter, firsts, TwoBenches, Demand3}
 use Rattle.stepper.proofs.Handling.{written, room, no-room, begin-taken}
-use Rattle.stepper.proofs.Standing.{Good, good, standing, listing, held, begin-at, step-handled, short-refused}
-use Rattle.stepper.proofs.Counting.{Verdict, next, resend, neither, verdict, says-next, number-between, counted-next, counted-same, counted-le, count-le, count-ge, next-of, in-order}
+use Rattle.stepper.proofs.Standing.{Good, good, standing, listing, held, begin-at, begun-at, step-handled, short-refused}
+use Rattle.stepper.proofs.Counting.{Verdict, next, resend, neither, verdict, says-next, number-between, counted-next, counted-same}
+use Rattle.stepper.proofs.Counting.{counted-le, count-le, count-ge, next-of, in-order}
 
 -- ---- lists of requests, whatever the frames
 
@@ -115,7 +115,8 @@ short-down s buffer h = record {
 
 module _ (g : List ℕ) (G : Good g) (c : ℕ) (le : c ≤ roundOf g) (x : Request) (kind : kindIn (x .frame) ≡ letterS) where
   -- the outcome where the count accepts, and where it does not
-  taken : accepts (roundOf g) c (arrival x) ≡ true → one (sessionAt g c) x ≡ written (stepped (sessionAt g (numberIn (x .frame)))) (x .buffer)
+  taken : accepts (roundOf g) c (arrival x) ≡ true →
+      one (sessionAt g c) x ≡ written (stepped (sessionAt g (numberIn (x .frame)))) (x .buffer)
   taken t = elim (decLt (length (x .buffer)) 40) [
     | yes l ↦ absurd (false≢true (sym (short-refused (roundOf g) c (arrival x) l .0) ∙ t))
     | no l ↦ room (sessionAt g c) (x .frame) (x .buffer) (omega arith)
@@ -257,11 +258,12 @@ module _ (g : List ℕ) (G : Good g) (listA listB : List Request) (ordered : InO
           let (low, high) = number-between (roundOf g) c (arrival x) within t in
           let (y, e) = found listA (k - 1) (omega (arith, ordered .long)) in
           let up : k - 1 + 1 ≡ k = omega arith in
-          let A : Answered g k (y .buffer) (written (stepped (sessionAt g (k - 1 + 1))) (y .buffer)) = rw up (stepped-answered g G k (y .buffer)) in
+          let x′ = stepped (sessionAt g (k - 1 + 1)) in
+          let A : Answered g k (y .buffer) (written x′ (y .buffer)) = rw up (stepped-answered g G k (y .buffer)) in
           record {
             at = k - 1;
             numbered = sym up;
-            other = written (stepped (sessionAt g (k - 1 + 1))) (y .buffer);
+            other = written x′ (y .buffer);
             came = came-A (k - 1) y e;
             same = answers-B .bytes ∙ sym (A .bytes);
           }
@@ -269,7 +271,8 @@ module _ (g : List ℕ) (G : Good g) (listA listB : List Request) (ordered : InO
   both : TwoBenches g (sessionAt g 0) (sessionAt g 0) listA listB
   unfolding countOf
   both = record {
-    long = run-long (sessionAt g 0) listB;
+    long-A = run-long (sessionAt g 0) listA;
+    long-B = run-long (sessionAt g 0) listB;
     accepted-B = accepted-B;
     answered-B = λ p t. (answers-B p t, same-answer p t);
     answered-A = answers-A;
@@ -277,6 +280,7 @@ module _ (g : List ℕ) (G : Good g) (listA listB : List Request) (ordered : InO
     on-B = on-B;
     end-B = rw take-length at (on-B (length listB));
     on-A = on-A;
+    begun = begun-at g G;
     listing = listing g G;
     firsts-A = firsts-from g G listA frames-A 0 (omega arith) (roundOf g) (whole-A ∙ omega arith);
     firsts-B = firsts-from g G listB frames 0 (omega arith) (countOf g (map arrival listB)) (omega arith);

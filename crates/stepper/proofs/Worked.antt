@@ -9,7 +9,8 @@ use lib.ListN.{getElem?}
 use Rattle.frames.specs.Question.{kindIn, letterS, numberIn}
 use Rattle.stepper.specs.Exchange.{fresh, exchange}
 use Rattle.stepper.specs.TwoBenches.{passes, roundOf, countOf, Request, arrival, run, firsts}
-use Rattle.stepper.specs.Example.{beginning, stepping, asking, lent, listA, listB, odd, leftA, leftB, Instance, replyTo, replyLater, Refusals}
+use Rattle.stepper.specs.Example.{beginning, stepping, asking, lent, listA, listB, odd, leftA, leftB, leftHeights}
+use Rattle.stepper.specs.Example.{Instance, replyTo, replyLater, Fields, Refusals}
 use Rattle.stepper.proofs.TwoBenches.{two-benches}
 
 -- what holds at each position of a list
@@ -62,3 +63,7 @@ refusals = record {
   reserved-S = refl;
   reserved-Q = refl;
 }
+
+pub fields : Fields
+unfolding beginning stepping lent leftHeights fresh exchange numberIn
+fields = record { number = refl; bytes = refl; heights = refl }

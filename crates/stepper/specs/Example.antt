@@ -1,10 +1,11 @@
--- An instance of demand 3, and each refusal met once: n = 2, rule 1, from 1,1, top -1000, spacing 100 (document 01, "The printed round").
+-- An instance of demand 3, and each refusal met once: the round that document 01 prints, n = 2, rule 1, from 1,1, top -1000,
+-- spacing 100.
 use mathlib.Core.Bool.{true}
 use mathlib.Core.List.{List, [], _∷_, _++_, map}
 use mathlib.Core.Option.{some}
 use mathlib.Core.Path.{_≡_}
 use Prim.Native.Nat.{ℕ}
-use lib.IntN.{pos, negsuc}
+use lib.IntN.{negsuc}
 use lib.ListN.{take, set, replicate, getElem?}
 use Rattle.refusals.specs.declared.Cause.{Cause}
 use Rattle.refusals.specs.declared.Cause.the-variants.{ShortBuffer, FrameLength, FrameHeader, FrameKind, ReservedByte, WindowLength}
@@ -12,9 +13,11 @@ use Rattle.refusals.specs.declared.Cause.the-variants.{RuleNumber, NotWeakOrder
 use Rattle.frames.specs.declared.answer.Reply.{Reply}
 use Rattle.frames.specs.declared.answer.Reply.the-variants.{Accepted, Refused}
 use Rattle.frames.specs.Answer.{accepted, stateReply}
-use Rattle.stepper.specs.declared.Session.{Session}
+use Rattle.frames.specs.Fields.{bytes64}
+use Rattle.frames.specs.Question.{numberIn}
+use Rattle.stepper.specs.declared.session.Session.{Session}
 use Rattle.stepper.specs.Exchange.{fresh, Outcome, exchange}
-use Rattle.stepper.specs.TwoBenches.{roundOf, countOf, Request, arrival, run, after, firsts, TwoBenches}
+use Rattle.stepper.specs.TwoBenches.{roundOf, countOf, Request, arrival, run, firsts, TwoBenches}
 
 -- a B frame, an S frame numbered k < 256, a Q frame
 unfoldable pub beginning : List ℕ
@@ -62,6 +65,9 @@ leftA = exchange fresh beginning (lent 40) .0 .session
 unfoldable pub leftB : Session
 leftB = exchange odd beginning (lent 45) .0 .session
 
+unfoldable pub leftHeights : Session
+leftHeights = exchange fresh (set (set (set beginning 6 3) 24 0) 25 0) (lent 40) .0 .session
+
 pub record Instance : Type 0 where
   pub round : roundOf beginning ≡ 3
   pub accepted-A : accepted (exchange fresh beginning (lent 40) .0 .reply) ≡ true
@@ -75,8 +81,8 @@ pub record Instance : Type 0 where
       ≡ (1 ∷ 2 ∷ []) ∷ (2 ∷ 1 ∷ []) ∷ (1 ∷ 1 ∷ []) ∷ []
   -- the buffers of the first, the third and the fourth frame
   pub answer : getElem? (map (λ (o : Outcome). o .1) (run leftB listB)) 0
-      ≡ some ((87 ∷ 75 ∷ 65 ∷ 49 ∷ 0 ∷ 2 ∷ 2 ∷ 0 ∷ 1 ∷ 0 ∷ 0 ∷ 0 ∷ 0 ∷ 0 ∷ 0 ∷ 0 ∷ 180 ∷ 251 ∷ 255 ∷ 255 ∷ 0 ∷ 0 ∷ 0 ∷ 0 ∷ 1 ∷ 2 ∷ [])
-      ++ replicate 14 0 ++ (7 ∷ 7 ∷ []))
+      ≡ some ((87 ∷ 75 ∷ 65 ∷ 49 ∷ 0 ∷ 2 ∷ 2 ∷ 0 ∷ 1 ∷ []) ++ replicate 7 0
+      ++ (180 ∷ 251 ∷ 255 ∷ 255 ∷ 0 ∷ 0 ∷ 0 ∷ 0 ∷ 1 ∷ 2 ∷ []) ++ replicate 14 0 ++ (7 ∷ 7 ∷ []))
   pub untouched : getElem? (map (λ (o : Outcome). o .1) (run leftB listB)) 2 ≡ some (replicate 39 7)
   pub refusal : getElem? (map (λ (o : Outcome). o .1) (run leftB listB)) 3 ≡ some ((87 ∷ 75 ∷ 65 ∷ 49 ∷ 11 ∷ []) ++ replicate 35 0)
   pub both : TwoBenches beginning leftA leftB listA listB
@@ -92,6 +98,13 @@ replyLater f = exchange leftA f (lent 40) .0 .reply
 abbrev pub Refuses : List (ℕ × ℕ) → Cause → Type 0
 Refuses changes cause =
     map (λ (x : ℕ × ℕ). replyTo (set beginning (x .0) (x .1))) changes ≡ map (λ (x : ℕ × ℕ). Refused cause) changes
+
+-- numbers of eight bytes, and levels in height form
+pub record Fields : Type 0 where
+  pub number : numberIn (replicate 8 0 ++ (1 ∷ 2 ∷ 3 ∷ 4 ∷ 5 ∷ 6 ∷ 7 ∷ 8 ∷ [])) ≡ 578437695752307201
+  pub bytes : bytes64 578437695752307201 ≡ 1 ∷ 2 ∷ 3 ∷ 4 ∷ 5 ∷ 6 ∷ 7 ∷ 8 ∷ []
+  -- rule 3 appends 1 to 0,0, one spacing below the top
+  pub heights : exchange leftHeights (stepping 1) (lent 40) .0 .reply ≡ Accepted 1 (negsuc 1099)
 
 pub record Refusals : Type 0 where
   pub header : Refuses ((0, 0) ∷ (1, 0) ∷ (2, 65) ∷ (3, 50) ∷ []) FrameHeader

@@ -18,8 +18,8 @@ use Rattle.frames.specs.Level.{settingOk}
 use Rattle.frames.specs.Question.{isQuestion, kindIn, letterB, letterS, letterQ, lengthIn, ruleIn, numberIn, settingIn, windowIn}
 use Rattle.frames.specs.Question.{reservedB, reservedS, reservedQ}
 use Rattle.frames.specs.Answer.{accepted, answerBytes, stepReply, stateReply}
-use Rattle.stepper.specs.declared.Exchanged.{Exchanged}
-use Rattle.stepper.specs.declared.Session.{Session}
+use Rattle.stepper.specs.declared.session.Exchanged.{Exchanged}
+use Rattle.stepper.specs.declared.session.Session.{Session}
 
 -- what test 8 asks of sixteen bytes: the first n are a weak order in the rule's form, and the others are zero
 unfoldable pub windowOk : ℕ → ℕ → List ℕ → Bool
@@ -96,15 +96,24 @@ unfoldable pub queryOf : Session → Exchanged
 unfolding hasBegun
 queryOf s = cond (not (hasBegun s)) (refuse s NotBegun) (record { session = s; reply = stateReply })
 
+-- S and Q, from test 5 on
+unfoldable pub stepFrame : Session → List ℕ → Exchanged
+unfolding reservedS numberIn stepOf
+stepFrame s f = cond (not (reservedS f)) (refuse s ReservedByte) (stepOf s (numberIn f))
+
+unfoldable pub queryFrame : Session → List ℕ → Exchanged
+unfolding reservedQ queryOf
+queryFrame s f = cond (not (reservedQ f)) (refuse s ReservedByte) (queryOf s)
+
 -- a frame whose answer has room: tests 2 to 4, then by kind
 unfoldable pub handle : Session → List ℕ → Exchanged
-unfolding isQuestion beginFrame reservedS numberIn stepOf reservedQ queryOf
+unfolding isQuestion beginFrame stepFrame queryFrame
 handle s f =
     cond (not (eqb (length f) 40)) (refuse s FrameLength) (
     cond (not (isQuestion f)) (refuse s FrameHeader) (
     cond (eqb (kindIn f) letterB) (beginFrame s f) (
-    cond (eqb (kindIn f) letterS) (cond (not (reservedS f)) (refuse s ReservedByte) (stepOf s (numberIn f))) (
-    cond (eqb (kindIn f) letterQ) (cond (not (reservedQ f)) (refuse s ReservedByte) (queryOf s))
+    cond (eqb (kindIn f) letterS) (stepFrame s f) (
+    cond (eqb (kindIn f) letterQ) (queryFrame s f)
     (refuse s FrameKind)))))
 
 -- the answer to a frame: its reply, with the steps done and the window that it left, zero filled

@@ -1,3 +1,4 @@
 pub mod Exchange
 pub mod TwoBenches
 pub mod Example
+pub mod Levels

@@ -16,10 +16,11 @@ use Rattle.refusals.specs.declared.Cause.the-variants.{ShortBuffer, FrameLength
 use Rattle.frames.specs.declared.answer.Reply.{Reply}
 use Rattle.frames.specs.declared.answer.Reply.the-variants.{Refused}
 use Rattle.frames.specs.Level.{settingOk}
-use Rattle.frames.specs.Question.{isQuestion, kindIn, letterB, letterS, lengthIn, ruleIn, numberIn, settingIn, windowIn, reservedB, reservedS}
+use Rattle.frames.specs.Question.{isQuestion, kindIn, letterB, letterS, lengthIn, ruleIn, numberIn, settingIn, windowIn}
+use Rattle.frames.specs.Question.{reservedB, reservedS}
 use Rattle.frames.specs.Answer.{accepted, wka1, answerBytes, stepReply}
-use Rattle.stepper.specs.declared.Session.{Session}
-use Rattle.stepper.specs.Exchange.{windowOk, Outcome, exchange}
+use Rattle.stepper.specs.declared.session.Session.{Session}
+use Rattle.stepper.specs.Exchange.{windowOk, hasBegun, Outcome, exchange}
 
 -- The count. It is fed the begin frame g, the frames that follow and the lengths of their buffers: no session and no answer.
 
@@ -43,6 +44,7 @@ unfoldable pub isResend : ℕ → Arrival → Bool
 unfolding passes numberIn
 isResend c x = passes x && (eqb (numberIn (x .frame)) c && leb 1 (numberIn (x .frame)))
 
+-- accepted at the count c: as the next step, or as a resend
 unfoldable pub accepts : ℕ → ℕ → Arrival → Bool
 unfolding isNext isResend
 accepts end c x = isNext end c x || isResend c x
@@ -62,6 +64,7 @@ unfoldable pub roundOf : List ℕ → ℕ
 unfolding a
 roundOf g = a (lengthIn g)
 
+-- the count after the begin frame and a list of frames
 unfoldable pub countOf : List ℕ → List Arrival → ℕ
 unfolding countFrom roundOf
 countOf g = countFrom (roundOf g) 0
@@ -194,21 +197,23 @@ firsts end c (x ∷ l) (o ∷ outcomes) =
 -- Demand 3, where the begin frame g left the sessions A and B, and the lists listA and listB followed.
 pub record TwoBenches (g : List ℕ) (A B : Session) (listA listB : List Request) : Type 0 where
   -- 1. each frame comes to an outcome, and B accepts just what the count accepts
-  pub long : length (run B listB) ≡ length listB
+  pub long-A : length (run A listA) ≡ length listA
+  pub long-B : length (run B listB) ≡ length listB
   pub accepted-B : {i : ℕ} {x : Request} {c : ℕ} {o : Outcome} → Position g B listB i x c o →
       accepted (o .0 .reply) ≡ accepts (roundOf g) c (arrival x)
   -- 2. and answers it with the bytes for W_k, which are those that A got for k
-  pub answered-B : {i : ℕ} {x : Request} {c : ℕ} {o : Outcome} → Position g B listB i x c o → accepts (roundOf g) c (arrival x) ≡ true →
-      Answered g (numberIn (x .frame)) (x .buffer) o × SameAnswer (run A listA) (numberIn (x .frame)) o
+  pub answered-B : {i : ℕ} {x : Request} {c : ℕ} {o : Outcome} → Position g B listB i x c o →
+      accepts (roundOf g) c (arrival x) ≡ true → Answered g (numberIn (x .frame)) (x .buffer) o × SameAnswer (run A listA) (numberIn (x .frame)) o
   pub answered-A : (i : ℕ) (x : Request) (o : Outcome) → getElem? listA i ≡ some x → getElem? (run A listA) i ≡ some o →
       Answered g (i + 1) (x .buffer) o
   -- 3. any other is refused for its cause, and leaves the session
-  pub refused-B : {i : ℕ} {x : Request} {c : ℕ} {o : Outcome} → Position g B listB i x c o → accepts (roundOf g) c (arrival x) ≡ false →
-      TurnedDown (causeAt c (arrival x)) (after B (take i listB)) (x .buffer) o
-  -- 4. after i frames, and after them all, B stands at the count; after k frames A stands at k
+  pub refused-B : {i : ℕ} {x : Request} {c : ℕ} {o : Outcome} → Position g B listB i x c o →
+      accepts (roundOf g) c (arrival x) ≡ false → TurnedDown (causeAt c (arrival x)) (after B (take i listB)) (x .buffer) o
+  -- 4. after i frames, and after them all, B stands at the count; after k frames A stands at k; and such a session has begun
   pub on-B : (i : ℕ) → after B (take i listB) ≡ sessionAt g (countOf g (map arrival (take i listB)))
   pub end-B : after B listB ≡ sessionAt g (countOf g (map arrival listB))
   pub on-A : (k : ℕ) → k ≤ roundOf g → after A (take k listA) ≡ sessionAt g k
+  pub begun : (k : ℕ) → k ≤ roundOf g → hasBegun (sessionAt g k) ≡ true
   -- 5. W_1 … W_a(n) are the weak orders of n in the rule's form, each once, and the last is the start window; A's sessions
   -- after its frames hold them in order, and so do B's right after each first acceptance, as far as the count came
   pub listing : Tour (WeakOrder (lengthIn g) (ruleIn g)) (step (ruleOf (ruleIn g))) (roundOf g) (startOf g)

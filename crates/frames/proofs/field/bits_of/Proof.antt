@@ -2,9 +2,8 @@
 use mathlib.Core.Path.{_≡_, ap}
 use native.Mathlib.Omega.{arith}
 use lib.IntN.{pos, _+ℤ_, natAbs}
-use lib.Signed.{ltZ}
 use mir.Facts.{toZ-ofZ, sfits-widen}
-use mir.Syntax.{w32, w64}
+use mir.Syntax.{w64}
 use mir.Val.{SFits}
 use Rattle.frames.specs.Fields.{bits32}
 use Rattle.frames.proofs.Signed.{lifted, kept, bits32-lt}

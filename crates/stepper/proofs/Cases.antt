@@ -1,0 +1,144 @@
+-- The cases of a step frame and of an exchange, each under the tests that lead to it. Assumes nothing.
+use mathlib.Core.Bool.{true, false, cond}
+use mathlib.Core.List.{List, _++_}
+use mathlib.Core.Path.{_≡_, refl, sym, ap, _∙_}
+use Prim.Native.Nat.{ℕ, _+_, _-_, _≤_, _<_}
+use native.Mathlib.Omega.{arith}
+use lib.Dec.{leb, eqb}
+use lib.ListN.{length, take, drop}
+use lib.Seq.{length-take-le, getD-take, take-length}
+use borrow.Author.Tests.{le-ltb, le-leb, eq-eqb, ne-eqb}
+use Rattle.weak_orders.specs.Window.{different, height, bound, padded}
+use Rattle.weak_orders.proofs.Bits.{different-ones}
+use Rattle.weak_orders.proofs.HeightForm.{height-bound}
+use Rattle.weak_orders.proofs.RankForm.{says-rank, rank-le-length}
+use Rattle.weak_orders.proofs.Symbols.{bound-find}
+use Rattle.weak_orders.proofs.Tests.{by-test}
+use Rattle.ranking.specs.Counts.{a}
+use Rattle.successors.specs.Rules.{inForm}
+use Rattle.refusals.specs.declared.Cause.the-variants.{NotBegun, StepNumber, RoundFinished}
+use Rattle.frames.specs.declared.answer.Reply.{Reply}
+use Rattle.frames.specs.declared.answer.Reply.the-variants.{Accepted, Refused}
+use Rattle.frames.specs.Fields.{byte}
+use Rattle.frames.specs.Question.{reservedB}
+use Rattle.frames.specs.Answer.{accepted, answerBytes, newest}
+use Rattle.frames.proofs.Padding.{padded-take}
+use Rattle.stepper.specs.declared.session.Exchanged.{Exchanged}
+use Rattle.stepper.specs.declared.session.Session.{Session}
+use Rattle.stepper.specs.Exchange.{beginReply, hasBegun, refuse, roundIn, beginFrame, onward, stepped, stepOf}
+use Rattle.stepper.specs.Exchange.{handle, answerTo, exchange}
+use Rattle.stepper.proofs.Begun.{says-round, begin-judged, says-begun}
+
+-- a(n), as it is looked up, where n is a window's length
+pub looked-up : (n m : ℕ) → n ≤ 16 → m ≡ cond (leb n 16) (a n) 0 → m ≡ a n
+looked-up n m h e = rw (le-leb n 16 h) at e
+
+-- Whether a session has begun, by the reply that a begin frame for its round would get.
+module _ (s : Session) (reply : Reply) (flag : s .begun ≡ true) (judged : reply ≡ beginReply s) where
+  pub begun-accepted : (m : ℕ) → m ≡ cond (leb (s .n) 16) (a (s .n)) 0 → accepted reply ≡ true → leb (s .done) m ≡ hasBegun s
+  unfolding hasBegun
+  begun-accepted m e t =
+      let t′ : accepted (beginReply s) ≡ true = ap accepted (sym judged) ∙ t in
+      let round = says-round (s .n) (s .rule) (s .window) (s .setting) .to (sym (begin-judged s) ∙ t′) in
+      rw (flag, t′, looked-up (s .n) m (round .high) e)
+
+  pub begun-refused : accepted reply ≡ false → false ≡ hasBegun s
+  unfolding hasBegun
+  begun-refused t =
+      let t′ : accepted (beginReply s) ≡ false = ap accepted (sym judged) ∙ t in
+      rw (flag, t′)
+
+-- A begin frame, accepted or refused.
+module _ (s : Session) (f : List ℕ) (reply : Reply) (reserved : reservedB f ≡ true) (judged : reply ≡ beginReply (roundIn f)) where
+  pub begin-yes : accepted reply ≡ true → record { session = roundIn f; reply = reply } ≡ beginFrame s f
+  unfolding beginFrame
+  begin-yes t =
+      let t′ : accepted (beginReply (roundIn f)) ≡ true = ap accepted (sym judged) ∙ t in
+      rw (reserved, t′, judged)
+
+  pub begin-no : accepted reply ≡ false → record { session = s; reply = reply } ≡ beginFrame s f
+  unfolding beginFrame
+  begin-no t =
+      let t′ : accepted (beginReply (roundIn f)) ≡ false = ap accepted (sym judged) ∙ t in
+      rw (reserved, t′, judged)
+
+-- Step frames.
+module _ (s : Session) (k : ℕ) where
+  pub not-begun : hasBegun s ≡ false → refuse s NotBegun ≡ stepOf s k
+  unfolding stepOf
+  not-begun e = rw e
+
+  module _ (begun : hasBegun s ≡ true) where
+    pub zero-number : k ≡ 0 → refuse s StepNumber ≡ stepOf s k
+    unfolding stepOf
+    zero-number z = rw (begun, eq-eqb k 0 z)
+
+    module _ (positive : k ≡ 0 → ⊥) where
+      pub resent : k ≡ s .done → stepped s ≡ stepOf s k
+      unfolding stepOf
+      resent e = rw (begun, ne-eqb k 0 positive, eq-eqb k (s .done) e, ne-eqb k (s .done + 1) (λ e′. omega arith))
+
+      pub misnumbered : (k ≡ s .done → ⊥) → (k - 1 ≡ s .done → ⊥) → refuse s StepNumber ≡ stepOf s k
+      unfolding stepOf
+      misnumbered x y = rw (begun, ne-eqb k 0 positive, ne-eqb k (s .done) x, ne-eqb k (s .done + 1) (λ e. y (omega arith)))
+
+      module _ (next : k - 1 ≡ s .done) where
+        pub finished : s .done ≡ a (s .n) → refuse s RoundFinished ≡ stepOf s k
+        unfolding stepOf
+        finished e = rw (
+          begun,
+          ne-eqb k 0 positive,
+          ne-eqb k (s .done) (λ e. omega arith),
+          eq-eqb k (s .done + 1) (omega arith),
+          eq-eqb (s .done) (a (s .n)) e,
+        )
+
+        pub steps : (s .done ≡ a (s .n) → ⊥) → stepped (onward s) ≡ stepOf s k
+        unfolding stepOf
+        steps x = rw (
+          begun,
+          ne-eqb k 0 positive,
+          ne-eqb k (s .done) (λ e. omega arith),
+          eq-eqb k (s .done + 1) (omega arith),
+          ne-eqb (s .done) (a (s .n)) x,
+        )
+
+-- The newest of the first n symbols.
+pub newest-at : (w : List ℕ) (n : ℕ) → 1 ≤ n → n ≤ length w → byte w (n - 1) ≡ newest (take n w)
+unfolding newest
+newest-at w n low high = rw (length-take-le n w high) (sym (getD-take n w (n - 1) 0 (omega arith)))
+
+-- The answer: what stands in it of the window counts only where the frame was accepted, and then the session has begun.
+pub same-answer : (reply : Reply) (done d d′ : ℕ) (w w′ : List ℕ) → (accepted reply ≡ true → (d ≡ d′) × (w ≡ w′)) →
+    answerBytes reply d done w ≡ answerBytes reply d′ done w′
+unfolding answerBytes accepted
+same-answer (Accepted symbol level) done d d′ w w′ h = let (e, e′) = h refl in rw (e, e′)
+same-answer (Refused cause) done d d′ w w′ h = refl
+
+-- the symbols of a window of at most 16 in either form are below 32
+form-bound : (rule : ℕ) (w : List ℕ) → length w ≤ 16 → inForm rule w ≡ true → bound w ≤ 32
+unfolding inForm
+form-bound rule w le h = by-test (eqb rule 1)
+    (λ e.
+    let small : ¬ (32 < bound w) = λ lt.
+    let (x, m, big) = bound-find w 32 lt in
+    omega (arith, rank-le-length w (says-rank w .to (rw e at h)) x m) in
+    omega arith)
+    (λ e. omega (arith, height-bound w (rw e at h)))
+
+pub answer-parts : (s : Session) → length (s .window) ≡ 16 → hasBegun s ≡ true →
+    (height (take (s .n) (s .window)) 32 ≡ different (take (s .n) (s .window))) × (s .window ≡ padded (take (s .n) (s .window)))
+answer-parts s l t =
+    let round = says-begun s .to t .round in
+    let w = take (s .n) (s .window) in
+    let long = length-take-le (s .n) (s .window) (omega (arith, round .high)) in (
+      different-ones w (form-bound (s .rule) w (omega (arith, round .high)) (round .form)),
+      sym (padded-take (s .window) (s .n) l (round .high) (round .unused)),
+    )
+
+-- An answer copied over a buffer that has room for it.
+pub written-over : (s : Session) (f buffer : List ℕ) (x : Exchanged) (bytes l : List ℕ) → 40 ≤ length buffer → x ≡ handle s f →
+    bytes ≡ answerTo x → length bytes ≡ 40 → l ≡ take (length bytes) bytes ++ drop (length bytes) buffer → (x, l) ≡ exchange s f buffer
+unfolding exchange
+written-over s f buffer x bytes l room h b long e =
+    rw (le-ltb (length buffer) 40 room, ← h, e, take-length bytes, long, b)

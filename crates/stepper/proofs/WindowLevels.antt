@@ -1,0 +1,46 @@
+-- The levels of a window: in range, and in the reverse order of its symbols. Assumes nothing.
+use mathlib.Core.Bool.{true}
+use mathlib.Core.List.{List}
+use mathlib.Core.Path.{_≡_}
+use Prim.Native.Nat.{ℕ, _<_}
+use native.Mathlib.Omega.{arith}
+use lib.Dec.{eqb}
+use lib.ListN.{length}
+use Rattle.weak_orders.proofs.HeightForm.{height-below}
+use Rattle.weak_orders.proofs.RankForm.{says-rank, rank-positive, rank-le-length}
+use Rattle.weak_orders.proofs.Tests.{_∈_, by-test}
+use Rattle.successors.specs.Rules.{inForm}
+use Rattle.frames.specs.Level.{spacings}
+use Rattle.frames.proofs.Levels.{passed, level-range, level-falls, level-same}
+use Rattle.stepper.specs.Levels.{LevelsOk}
+
+-- the spacings below the top: fewer than there are symbols, and in the order of the symbols
+module _ (rule : ℕ) (w : List ℕ) (form : inForm rule w ≡ true) where
+  spacings-below : (v : ℕ) → v ∈ w → spacings rule v < length w
+  unfolding inForm spacings
+  spacings-below v m = by-test (eqb rule 1)
+      (λ e.
+      let rank = says-rank w .to (rw e at form) in
+      rw e (omega (arith, rank-positive w rank v m, rank-le-length w rank v m)))
+      (λ e. rw e (height-below w (rw e at form) v m))
+
+  spacings-order : (u v : ℕ) → u ∈ w → u < v → spacings rule u < spacings rule v
+  unfolding inForm spacings
+  spacings-order u v m lt = by-test (eqb rule 1)
+      (λ e. rw e (omega (arith, rank-positive w (says-rank w .to (rw e at form)) u m)))
+      (λ e. rw e lt)
+
+pub levels-ok : LevelsOk
+levels-ok n rule s w ok (long, form) =
+    let h = passed n s ok in
+    let within : (v : ℕ) → v ∈ w → spacings rule v < n = λ v m. omega (arith, spacings-below rule w form v m) in
+    record {
+      low = λ v m. level-range h rule v (within v m) .0;
+      high = λ v m. level-range h rule v (within v m) .1;
+      falling = λ u v mu mv lt. level-falls h rule u v (spacings-order rule w form u v mu lt);
+      same = λ u v mu mv e.
+          let d = level-same h rule u v e in
+          let up : ¬ (u < v) = λ lt. omega (arith, spacings-order rule w form u v mu lt) in
+          let down : ¬ (v < u) = λ lt. omega (arith, spacings-order rule w form v u mv lt) in
+          omega arith;
+    }

@@ -1,0 +1,37 @@
+-- `answer_to` meets its contract: after an accepted frame the bits count all symbols, and the unused bytes are zero. Assumes nothing.
+use mathlib.Core.Path.{_≡_, _∙_}
+use Prim.Native.Nat.{_≤_}
+use native.Mathlib.Omega.{arith}
+use lib.ListN.{length, take}
+use Rattle.weak_orders.proofs.Symbols.{height-le}
+use Rattle.stepper.specs.Exchange.{answerTo}
+use Rattle.stepper.proofs.Cases.{same-answer, answer-parts}
+use borrow.Author.Needs.{needs}
+use Rattle.stepper.proofs.handler.answer_to.Statement.{statement}
+use Rattle.stepper.proofs.handler.answer_to.Tie as tie
+
+different-requires : tie.Need-different-requires
+different-requires c κs = search needs
+
+cast-different : tie.Need-cast-different
+cast-different c =
+    let s = c .before .before .before .args .x .session in
+    let le : c .different .result ≤ 32 = rw (c .different .ensures) (height-le (take (s .n) (s .window)) 32) in
+    record { fits = omega arith }
+
+answer-bytes-requires : tie.Need-answer-bytes-requires
+answer-bytes-requires c κs = search needs
+
+returns : tie.Need-returns
+unfolding answerTo
+returns c =
+    let start = c .before .before .before .before in
+    let x = start .args .x in
+    let l : length (x .session .window) ≡ 16 = search needs in
+    let many = c .before .different .ensures in
+    c .answer-bytes .ensures ∙ same-answer (x .reply) (x .session .done) _ _ _ _
+    (λ t. let (bits, window) = answer-parts (x .session) l (start .pre t) in (many ∙ bits, window))
+
+pub answer-to-spec : {M : Type 1} → statement M
+answer-to-spec =
+    tie.close (tie.spec different-requires cast-different answer-bytes-requires returns)

@@ -1,0 +1,111 @@
+-- `handle` meets its contract: its tests are those of the definition, in order. Assumes nothing.
+use mathlib.Core.Bool.{true, false}
+use mathlib.Core.Path.{_≡_, ap, sym, _∙_}
+use denote.Ref.{now}
+use borrow.Author.Tests.{eq-eqb, ne-eqb, not-true, not-false}
+use Rattle.frames.specs.Question.{isQuestion}
+use Rattle.stepper.specs.Exchange.{handle}
+use borrow.Author.Needs.{needs}
+use Rattle.stepper.proofs.handler.handle.Statement.{statement}
+use Rattle.stepper.proofs.handler.handle.Tie as tie
+
+-- the header, where the second test was passed
+question : (c : tie.Else2) → isQuestion (now (c .before .before .before .before .before .args .frame)) ≡ true
+question c = ap isQuestion (sym (c .before .before .load .ensures)) ∙ sym (c .before .is-question .ensures) ∙ not-false _ (c .if2 .left)
+
+refuse-requires : tie.Need-refuse-requires
+refuse-requires c κs = search needs
+
+returns : tie.Need-returns
+unfolding handle
+returns c = rw (c .refuse .ensures, ne-eqb _ 40 (c .before .if1 .taken))
+
+load-requires : tie.Need-load-requires
+load-requires c κs = search needs
+
+is-question-requires : tie.Need-is-question-requires
+is-question-requires c κs = search needs
+
+refuse-requires-2 : tie.Need-refuse-requires-2
+refuse-requires-2 c κs = search needs
+
+returns-2 : tie.Need-returns-2
+unfolding handle
+returns-2 c =
+    let tested = c .before .before in
+    let f = tested .before .before .before .before .args .frame in
+    let q : isQuestion (now f) ≡ false =
+    ap isQuestion (sym (tested .before .load .ensures)) ∙ sym (tested .is-question .ensures) ∙ not-true _ (c .before .if2 .taken) in
+    rw (c .refuse2 .ensures, eq-eqb _ 40 (tested .before .before .if1 .left), q)
+
+array-read-kind : tie.Need-array-read-kind
+array-read-kind c = search needs
+
+begin-frame-requires : tie.Need-begin-frame-requires
+begin-frame-requires c κs = search needs
+
+step-frame-requires : tie.Need-step-frame-requires
+step-frame-requires c κs = search needs
+
+query-frame-requires : tie.Need-query-frame-requires
+query-frame-requires c κs = search needs
+
+refuse-requires-3 : tie.Need-refuse-requires-3
+refuse-requires-3 c κs = search needs
+
+returns-3 : tie.Need-returns-3
+unfolding handle
+returns-3 c =
+    let two = c .before .before in
+    let load = two .before .before in
+    rw (c .begin-frame .ensures, eq-eqb _ 40 (load .before .if1 .left), question two, ← load .load .ensures, c .before .match .keys1)
+
+returns-4 : tie.Need-returns-4
+unfolding handle
+returns-4 c =
+    let two = c .before .before in
+    let load = two .before .before in
+    rw (c .step-frame .ensures, eq-eqb _ 40 (load .before .if1 .left), question two, ← load .load .ensures, c .before .match .keys2)
+
+returns-5 : tie.Need-returns-5
+unfolding handle
+returns-5 c =
+    let two = c .before .before in
+    let load = two .before .before in
+    rw (c .query-frame .ensures, eq-eqb _ 40 (load .before .if1 .left), question two, ← load .load .ensures, c .before .match .keys3)
+
+returns-6 : tie.Need-returns-6
+unfolding handle
+returns-6 c =
+    let two = c .before .before in
+    let load = two .before .before in
+    let rest = c .before .match .rest in
+    rw (
+      c .refuse3 .ensures,
+      eq-eqb _ 40 (load .before .if1 .left),
+      question two,
+      ← load .load .ensures,
+      ne-eqb _ 66 (rest .0 .0 .1),
+      ne-eqb _ 83 (rest .0 .1),
+      ne-eqb _ 81 (rest .1),
+    )
+
+pub handle-spec : {M : Type 1} → statement M
+handle-spec =
+    tie.close
+    (tie.spec
+    refuse-requires
+    returns
+    load-requires
+    is-question-requires
+    refuse-requires-2
+    returns-2
+    array-read-kind
+    begin-frame-requires
+    step-frame-requires
+    query-frame-requires
+    refuse-requires-3
+    returns-3
+    returns-4
+    returns-5
+    returns-6)

@@ -1,0 +1,26 @@
+-- `query_frame` meets its contract. Assumes nothing.
+use Rattle.stepper.specs.Exchange.{queryFrame}
+use borrow.Author.Needs.{needs}
+use Rattle.stepper.proofs.handler.query_frame.Statement.{statement}
+use Rattle.stepper.proofs.handler.query_frame.Tie as tie
+
+reserved-query-requires : tie.Need-reserved-query-requires
+reserved-query-requires c κs = search needs
+
+refuse-requires : tie.Need-refuse-requires
+refuse-requires c κs = search needs
+
+returns : tie.Need-returns
+unfolding queryFrame
+returns c = rw (c .refuse .ensures, ← c .before .before .reserved-query .ensures, c .before .if1 .taken)
+
+query-requires : tie.Need-query-requires
+query-requires c κs = search needs
+
+returns-2 : tie.Need-returns-2
+unfolding queryFrame
+returns-2 c = rw (c .query .ensures, ← c .before .before .reserved-query .ensures, c .before .if1 .left)
+
+pub query-frame-spec : {M : Type 1} → statement M
+query-frame-spec =
+    tie.close (tie.spec reserved-query-requires refuse-requires returns query-requires returns-2)

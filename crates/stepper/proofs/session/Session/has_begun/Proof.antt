@@ -1,0 +1,52 @@
+-- `Session::has_begun` meets its contract: the reply is the one that a begin frame would get. Assumes nothing.
+use borrow.Author.Tests.{not-true, not-false}
+use Rattle.frames.specs.Answer.{accepted}
+use Rattle.stepper.specs.Exchange.{hasBegun}
+use Rattle.stepper.proofs.Cases.{begun-accepted, begun-refused}
+use borrow.Author.Needs.{needs}
+use Rattle.stepper.proofs.session.Session.has_begun.Statement.{statement}
+use Rattle.stepper.proofs.session.Session.has_begun.Tie as tie
+
+returns : tie.Need-returns
+unfolding hasBegun
+returns c = rw (not-true (c .before .args .self .begun) (c .if1 .taken))
+
+begin-reply-requires : tie.Need-begin-reply-requires
+begin-reply-requires c κs = search needs
+
+enum-told : tie.Need-enum-told
+enum-told c = search needs
+
+weak-order-count-requires : tie.Need-weak-order-count-requires
+weak-order-count-requires c κs = search needs
+
+enum-told-2 : tie.Need-enum-told-2
+enum-told-2 c = search needs
+
+returns-2 : tie.Need-returns-2
+unfolding accepted
+returns-2 c =
+    let told = c .before in
+    let judged = told .before .before in
+    let s = judged .before .before .args .self in
+    begun-accepted s _ (not-false (s .begun) (judged .before .if1 .left)) (judged .begin-reply .ensures) _
+    (c .weak-order-count .ensures) (rw (told .enum-told .given .1))
+
+returns-3 : tie.Need-returns-3
+unfolding accepted
+returns-3 c =
+    let judged = c .before .before in
+    let s = judged .before .before .args .self in
+    begun-refused s _ (not-false (s .begun) (judged .before .if1 .left)) (judged .begin-reply .ensures) (rw (c .enum-told2 .given .1))
+
+pub has-begun-spec : {M : Type 1} → statement M
+has-begun-spec =
+    tie.close
+    (tie.spec
+    returns
+    begin-reply-requires
+    enum-told
+    weak-order-count-requires
+    enum-told-2
+    returns-2
+    returns-3)

@@ -1,0 +1,21 @@
+-- The levels of a window under a setting that passes test 9 (document 01, "Level" and "Turned down").
+use mathlib.Core.Bool.{true}
+use mathlib.Core.List.{List, List·Memᴰ}
+use mathlib.Core.Path.{_≡_}
+use Prim.Native.Nat.{ℕ, _<_}
+use lib.IntN.{pos, negsuc}
+use lib.Signed.{leZ, ltZ}
+use Rattle.universal_cycle.specs.Round.{WeakOrder}
+use Rattle.frames.specs.declared.level.Setting.{Setting}
+use Rattle.frames.specs.Level.{levelOf, settingOk}
+
+pub record Levels (rule : ℕ) (s : Setting) (w : List ℕ) : Type 0 where
+  -- each lies in -12000 … 2000
+  pub low : (v : ℕ) → List·Memᴰ v w → leZ (negsuc 11999) (levelOf rule s v) ≡ true
+  pub high : (v : ℕ) → List·Memᴰ v w → leZ (levelOf rule s v) (pos 2000) ≡ true
+  -- the smaller symbol has the higher level, and equal levels mean equal symbols
+  pub falling : (u v : ℕ) → List·Memᴰ u w → List·Memᴰ v w → u < v → ltZ (levelOf rule s v) (levelOf rule s u) ≡ true
+  pub same : (u v : ℕ) → List·Memᴰ u w → List·Memᴰ v w → levelOf rule s u ≡ levelOf rule s v → u ≡ v
+
+abbrev pub LevelsOk : Type 0
+LevelsOk = (n rule : ℕ) (s : Setting) (w : List ℕ) → settingOk n s ≡ true → WeakOrder n rule w → Levels rule s w
