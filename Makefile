@@ -2,7 +2,7 @@
 CC = gcc
 CFLAGS = -std=c11 -O2 -Wall -Wextra -D_DEFAULT_SOURCE
 LIB = target/staticlib/libwko.a
-TESTS = target/host/test_calls
+TESTS = target/host/test_calls target/host/test_session
 
 .PHONY: test run lib host-test bench clean
 
@@ -20,9 +20,9 @@ $(LIB): crates.txt $(shell find crates -name '*.rt' -o -name '*.antt')
 host-test: $(TESTS)
 	@for t in $(TESTS); do $$t || exit 1; done
 
-target/host/%: host/%.c host/reference.c host/reference.h host/testing.h include/wko.h $(LIB)
+target/host/%: host/%.c $(wildcard host/*.h) host/reference.c host/session_model.c include/wko.h $(LIB)
 	@mkdir -p target/host
-	@$(CC) $(CFLAGS) -o $@ $< host/reference.c $(LIB)
+	@$(CC) $(CFLAGS) -o $@ $< host/reference.c host/session_model.c $(LIB)
 
 # Speed against plain C in the same run; a report, not a test.
 bench: target/host/bench

@@ -7,6 +7,7 @@ ghost use Rattle.weak_orders.specs.Window.{isLength};
 ghost use Rattle.frames.specs.Level.{spacings, levelOf, settingOk};
 
 // A level setting, in hundredths of a dBm.
+#[repr(C)]
 pub struct Setting {
     pub top: i16,
     pub spacing: u16,

@@ -11,6 +11,7 @@ use frames::level::Setting;
 use refusals::Cause;
 
 // A session. Any values of the fields may be handed in; `has_begun` judges them.
+#[repr(C)]
 pub struct Session {
     pub begun: bool,
     pub n: usize,

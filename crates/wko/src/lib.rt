@@ -1,5 +1,8 @@
 // The C interface: direct calls on numbers and byte slices, declared in include/wko.h.
-// A thin layer over weak_orders, ranking and successors: it tests lengths, calls, and copies the answer out.
+// A thin layer over weak_orders, ranking and successors: it tests lengths, calls, and copies the answer out. The frame call for
+// firmware is in the module session.
+pub mod session;
+
 ghost use mathlib.Core.Bool.{true};
 ghost use mathlib.Core.List.{_++_};
 ghost use mathlib.Core.Path.{_≡_};

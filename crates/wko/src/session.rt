@@ -1,0 +1,48 @@
+// The session for firmware in C: a struct by value, and one call for a frame. Its contract is that of stepper's frame call.
+ghost use mathlib.Core.Path.{_≡_};
+ghost use Rattle.frames.specs.declared.answer.Reply.{Reply};
+ghost use Rattle.stepper.specs.Exchange.{fresh};
+ghost use Rattle.wko.specs.SessionCalls.{replyNumber, exchangeCall};
+use frames::answer::Reply;
+use stepper::session::Session;
+
+// The session after a frame, and 0 or the number of the refusal.
+#[repr(C)]
+pub struct Exchanged {
+    pub session: Session,
+    pub number: u32,
+}
+
+// A session that has not begun.
+#[no_mangle]
+pub extern "C" fn wko_fresh() -> Session
+    ensures { λ r. ⌜ r ≡ fresh ⌝ }
+{
+    Session::fresh()
+}
+
+fn reply_number(reply: Reply) -> u32
+    ensures { λ r. ⌜ r ≡ replyNumber reply ⌝ }
+{
+    match reply {
+        Reply::Accepted {
+            symbol: _,
+            level: _,
+        } => 0,
+        Reply::Refused(cause) => refusals::number(cause) as u32,
+    }
+}
+
+// One frame.
+#[no_mangle]
+pub extern "C" fn wko_exchange(session: Session, frame: &[u8], answer: &mut [u8]) -> Exchanged
+    ensures { λ r. ⌜ (r, now (answer .exit)) ≡ exchangeCall session (now (frame .entry)) (now (answer .entry)) ⌝ }
+{
+    let x = stepper::exchange(session, frame, answer);
+    let reply = x.reply;
+    let next = x.session;
+    Exchanged {
+        session: next,
+        number: reply_number(reply),
+    }
+}
