@@ -5,7 +5,7 @@ use mathlib.Core.Path.{_≡_, refl, sym, ap, _∙_}
 use Prim.Native.Nat.{ℕ, zero, suc, _+_, _-_, _≤_}
 use native.Mathlib.Omega.{arith}
 use lib.ListN.{length, take, drop, drop-of-length-le, replicate, length-drop, take-append-drop}
-use lib.Seq.{length-take-le, take-length}
+use lib.Seq.{length-take-le, take-length, drop-drop}
 use Rattle.weak_orders.specs.Window.{all, padded}
 use Rattle.weak_orders.proofs.Tests.{says-all}
 use Rattle.weak_orders.proofs.Lists.{says-same, all-same}
@@ -38,11 +38,11 @@ copied src dst l e h =
     let le : length dst ≤ length src = omega arith in
     e ∙ rw (take-length src, drop-of-length-le dst le, append-nil)
 
--- and where it fills the last k elements of dst
-pub end-copied : (at k : ℕ) (dst src l : List ℕ) → length dst ≡ at + k → length src ≡ k →
-    l ≡ take (length src) src ++ drop (length src) (take k (drop at dst)) → take at dst ++ (l ++ drop k (drop at dst)) ≡ take at dst ++ src
-end-copied at k dst src l h hs e =
+-- and where it fills the k elements of dst from `at` on
+pub part-copied : (at k : ℕ) (dst src l : List ℕ) → at + k ≤ length dst → length src ≡ k →
+    l ≡ take (length src) src ++ drop (length src) (take k (drop at dst)) →
+    take at dst ++ (l ++ drop k (drop at dst)) ≡ take at dst ++ (src ++ drop (at + k) dst)
+part-copied at k dst src l h hs e =
     let left = length-drop at dst in
-    let le : length (drop at dst) ≤ k = omega arith in
     let mid : length (take k (drop at dst)) ≡ k = length-take-le k (drop at dst) (omega arith) in
-    rw (copied src (take k (drop at dst)) l e (omega arith), drop-of-length-le (drop at dst) le, append-nil src)
+    rw (copied src (take k (drop at dst)) l e (omega arith), drop-drop k at dst)

@@ -23,6 +23,16 @@ fn with_header(answer: [u8; 40]) -> [u8; 40]
     a
 }
 
+// An answer with the steps done in bytes 8 to 15.
+fn with_done(answer: [u8; 40], done: u64) -> [u8; 40]
+    ensures { λ r. ⌜ r ≡ take 8 answer ++ (bytes64 done ++ drop 16 answer) ⌝ }
+{
+    let mut a = answer;
+    let d = field::bytes_of(done);
+    bytes::copy(&d, &mut a[8..16]);
+    a
+}
+
 // An answer with the window in its last sixteen bytes.
 fn with_window(answer: [u8; 40], w: [u8; 16]) -> [u8; 40]
     ensures { λ r. ⌜ r ≡ take 24 answer ++ w ⌝ }
@@ -32,21 +42,13 @@ fn with_window(answer: [u8; 40], w: [u8; 16]) -> [u8; 40]
     a
 }
 
-// Bytes 4 to 23 of an accepted answer, the others zero; `bits` is the level in two's complement.
-fn state_fields(symbol: u8, different: u8, done: u64, bits: u32) -> [u8; 40]
-    ensures { λ r. ⌜ r ≡ replicate 5 0 ++ (symbol ∷ different ∷ 0 ∷ []) ++ bytes64 done ++ bytes32 bits ++ replicate 20 0 ⌝ }
+// The symbol, the number of different symbols, and the level in two's complement; the other bytes zero.
+fn with_level(symbol: u8, different: u8, bits: u32) -> [u8; 40]
+    ensures { λ r. ⌜ r ≡ replicate 5 0 ++ (symbol ∷ different ∷ []) ++ replicate 9 0 ++ bytes32 bits ++ replicate 20 0 ⌝ }
 {
     let mut a = [0u8; 40];
     a[5] = symbol;
     a[6] = different;
-    a[8] = (done % 256) as u8;
-    a[9] = (done / 256 % 256) as u8;
-    a[10] = (done / 65536 % 256) as u8;
-    a[11] = (done / 16777216 % 256) as u8;
-    a[12] = (done / 4294967296 % 256) as u8;
-    a[13] = (done / 1099511627776 % 256) as u8;
-    a[14] = (done / 281474976710656 % 256) as u8;
-    a[15] = (done / 72057594037927936) as u8;
     a[16] = (bits % 256) as u8;
     a[17] = (bits / 256 % 256) as u8;
     a[18] = (bits / 65536 % 256) as u8;
@@ -63,13 +65,14 @@ fn refusal_bytes(cause: Cause) -> [u8; 40]
     with_header(a)
 }
 
+// The one encoder of answers.
 pub fn answer_bytes(reply: Reply, different: u8, done: u64, window: [u8; 16]) -> [u8; 40]
     ensures { λ r. ⌜ r ≡ answerBytes reply different done window ⌝ }
 {
     match reply {
         Reply::Accepted { symbol, level } => {
-            let fields = state_fields(symbol, different, done, field::bits_of(level));
-            with_header(with_window(fields, window))
+            let answer = with_level(symbol, different, field::bits_of(level));
+            with_header(with_window(with_done(answer, done), window))
         }
         Reply::Refused(cause) => refusal_bytes(cause),
     }

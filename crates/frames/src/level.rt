@@ -36,6 +36,7 @@ fn lowered(setting: Setting, count: u8) -> i32
     (top as i32) - (drop as i32)
 }
 
+// The level of a symbol, in hundredths of a dBm.
 pub fn level(rule: u8, setting: Setting, symbol: u8) -> i32
     ensures { λ r. ⌜ r ≡ levelOf rule setting symbol ⌝ }
 {

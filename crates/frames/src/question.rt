@@ -1,7 +1,7 @@
 // The fields of a question, in its forty bytes.
 ghost use mathlib.Core.Path.{_≡_};
-ghost use Prim.Native.Nat.{_+_, _≤_};
-ghost use Rattle.frames.specs.Fields.{part, zeros};
+ghost use Prim.Native.Nat.{_+_, _≤_, _<_};
+ghost use Rattle.frames.specs.Fields.{part, zeros, unsigned16, unsigned64};
 ghost use Rattle.frames.specs.Question.{isQuestion, numberIn, settingIn, windowIn, reservedB, reservedS, reservedQ};
 use crate::field;
 use crate::level::Setting;
@@ -48,18 +48,52 @@ pub fn reserved_query(f: [u8; 40]) -> bool
     zeros_in(f, 5, 35)
 }
 
+// A byte, wider, and below 256.
+fn wide16(x: u8) -> u16
+    ensures { λ r. ⌜ (r ≡ x) × (r < 256) ⌝ }
+{
+    x as u16
+}
+
+fn wide64(x: u8) -> u64
+    ensures { λ r. ⌜ (r ≡ x) × (r < 256) ⌝ }
+{
+    x as u64
+}
+
+// Little-endian numbers at a place in the frame.
+fn u16_at(f: [u8; 40], at: usize) -> u16
+    requires { ⌜ at + 2 ≤ 40 ⌝ }
+    ensures { λ r. ⌜ r ≡ unsigned16 f at ⌝ }
+{
+    wide16(f[at]) + 256 * wide16(f[at + 1])
+}
+
+fn u64_at(f: [u8; 40], at: usize) -> u64
+    requires { ⌜ at + 8 ≤ 40 ⌝ }
+    ensures { λ r. ⌜ r ≡ unsigned64 f at ⌝ }
+{
+    let high = wide64(f[at + 4])
+        + 256 * (wide64(f[at + 5]) + 256 * (wide64(f[at + 6]) + 256 * wide64(f[at + 7])));
+    wide64(f[at])
+        + 256
+            * (wide64(f[at + 1])
+                + 256 * (wide64(f[at + 2]) + 256 * (wide64(f[at + 3]) + 256 * high)))
+}
+
+// Bytes 8–15, 16–19 and 24–39.
 pub fn number_in(f: [u8; 40]) -> u64
     ensures { λ r. ⌜ r ≡ numberIn f ⌝ }
 {
-    field::u64_at(f, 8)
+    u64_at(f, 8)
 }
 
 pub fn setting_in(f: [u8; 40]) -> Setting
     ensures { λ r. ⌜ r ≡ settingIn f ⌝ }
 {
     Setting {
-        top: field::signed_of(field::u16_at(f, 16)),
-        spacing: field::u16_at(f, 18),
+        top: field::signed_of(u16_at(f, 16)),
+        spacing: u16_at(f, 18),
     }
 }
 

@@ -76,6 +76,7 @@ fn query_frame(session: Session, f: [u8; 40]) -> Exchanged
     session.query()
 }
 
+// Tests 2 to 4, then by kind.
 pub fn handle(session: Session, frame: &[u8]) -> Exchanged
     ensures { λ r. ⌜ r ≡ handle session (now (frame .entry)) ⌝ }
 {

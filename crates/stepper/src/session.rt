@@ -76,6 +76,7 @@ pub fn begin_reply(s: Session) -> Reply
 }
 
 impl Session {
+    // A session that has not begun.
     pub fn fresh() -> Session
         ensures { λ r. ⌜ r ≡ fresh ⌝ }
     {
@@ -175,6 +176,7 @@ impl Session {
         self.onward(number).stepped()
     }
 
+    // A query frame changes nothing, and has no symbol and no level.
     pub fn query(self) -> Exchanged
         ensures { λ r. ⌜ r ≡ queryOf self ⌝ }
     {

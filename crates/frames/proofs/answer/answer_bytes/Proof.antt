@@ -13,8 +13,11 @@ enum-known-reply c = search needs
 bits-of-requires : tie.Need-bits-of-requires
 bits-of-requires c κs = search needs
 
-state-fields-requires : tie.Need-state-fields-requires
-state-fields-requires c κs = search needs
+with-level-requires : tie.Need-with-level-requires
+with-level-requires c κs = search needs
+
+with-done-requires : tie.Need-with-done-requires
+with-done-requires c κs = search needs
 
 with-window-requires : tie.Need-with-window-requires
 with-window-requires c κs = search needs
@@ -31,14 +34,17 @@ refusal-bytes-requires c κs = search needs
 returns : tie.Need-returns
 unfolding answerBytes
 returns c =
-    let bits = c .before .before .before in
+    let window = c .before in
+    let level = window .before .before in
+    let bits = level .before in
     let reply = bits .before .before .reply .given in
     let h : SFits w32 (reply .0 .1 .0) = search needs in
     rw (
       reply .1,
       c .with-header .ensures,
-      c .before .with-window .ensures,
-      c .before .before .state-fields .ensures,
+      window .with-window .ensures,
+      window .before .with-done .ensures,
+      level .with-level .ensures,
       bits .bits-of .ensures,
       toZ-ofZ h,
     )
@@ -53,7 +59,8 @@ answer-bytes-spec =
     (tie.spec
     enum-known-reply
     bits-of-requires
-    state-fields-requires
+    with-level-requires
+    with-done-requires
     with-window-requires
     with-header-requires
     enum-known-reply-2

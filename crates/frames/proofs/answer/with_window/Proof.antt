@@ -1,8 +1,11 @@
 -- `with_window` meets its contract: the copy takes the place of the last sixteen bytes. Assumes nothing.
-use mathlib.Core.Path.{_≡_}
-use lib.ListN.{length}
+use mathlib.Core.List.{append-nil}
+use mathlib.Core.Path.{_≡_, _∙_}
+use Prim.Native.Nat.{_≤_}
+use native.Mathlib.Omega.{arith}
+use lib.ListN.{length, drop-of-length-le}
 use borrow.Author.Needs.{needs}
-use Rattle.frames.proofs.Padding.{end-copied}
+use Rattle.frames.proofs.Padding.{part-copied}
 use Rattle.frames.proofs.answer.with_window.Statement.{statement}
 use Rattle.frames.proofs.answer.with_window.Tie as tie
 
@@ -26,7 +29,9 @@ returns c =
     let a = c .before .before .before .before .args in
     let l : length (a .answer) ≡ 40 = search needs in
     let lw : length (a .t2) ≡ 16 = search needs in
-    end-copied 24 16 (a .answer) (a .t2) _ l lw (c .before .copy .ensures .1)
+    let le : length (a .answer) ≤ 40 = omega arith in
+    part-copied 24 16 (a .answer) (a .t2) _ (omega arith) lw (c .before .copy .ensures .1)
+    ∙ rw (drop-of-length-le (a .answer) le, append-nil (a .t2))
 
 pub with-window-spec : {M : Type 1} → statement M
 with-window-spec =

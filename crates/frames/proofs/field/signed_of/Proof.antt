@@ -26,7 +26,7 @@ cast-result : tie.Need-cast-result
 cast-result c = search needs
 
 returns : tie.Need-returns
-returns c = simp (lt-ltb _ _ (c .if1 .taken), toZ-pos w16 {n = c .before .args .x} (omega arith))
+returns c = rw (lt-ltb _ 32768 (c .if1 .taken))
 
 cast-result-2 : tie.Need-cast-result-2
 cast-result-2 c = search needs
