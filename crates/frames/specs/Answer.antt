@@ -16,6 +16,11 @@ unfoldable pub accepted : Reply → Bool
 accepted (Accepted symbol level) = true
 accepted (Refused cause) = false
 
+-- 0 for an accepted frame, or the table's number of the refusal
+abbrev pub replyNumber : Reply → ℕ
+replyNumber (Accepted symbol level) = 0
+replyNumber (Refused cause) = causeNumber cause
+
 -- the letters WKA1
 abbrev pub wka1 : List ℕ
 wka1 = 87 ∷ 75 ∷ 65 ∷ 49 ∷ []

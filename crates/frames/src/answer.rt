@@ -3,7 +3,7 @@ ghost use mathlib.Core.List.{_++_, [], _∷_};
 ghost use mathlib.Core.Path.{_≡_};
 ghost use lib.ListN.{take, drop, replicate};
 ghost use Rattle.frames.specs.Fields.{bytes32, bytes64};
-ghost use Rattle.frames.specs.Answer.{wka1, answerBytes};
+ghost use Rattle.frames.specs.Answer.{wka1, answerBytes, replyNumber};
 ghost use Rattle.refusals.specs.Numbers.{causeNumber};
 use crate::field;
 use refusals::Cause;
@@ -75,5 +75,18 @@ pub fn answer_bytes(reply: Reply, different: u8, done: u64, window: [u8; 16]) ->
             with_header(with_window(with_done(answer, done), window))
         }
         Reply::Refused(cause) => refusal_bytes(cause),
+    }
+}
+
+// 0 for an accepted frame, or the number of the refusal.
+pub fn number(reply: Reply) -> u8
+    ensures { λ r. ⌜ r ≡ replyNumber reply ⌝ }
+{
+    match reply {
+        Reply::Accepted {
+            symbol: _,
+            level: _,
+        } => 0,
+        Reply::Refused(cause) => refusals::number(cause),
     }
 }

@@ -1,16 +1,10 @@
 -- What the frame call gives C: the session after the frame with 0 or the refusal's number, and the whole buffer.
 use mathlib.Core.List.{List}
 use Prim.Native.Nat.{ℕ}
-use Rattle.refusals.specs.Numbers.{causeNumber}
-use Rattle.frames.specs.declared.answer.Reply.{Reply}
-use Rattle.frames.specs.declared.answer.Reply.the-variants.{Accepted, Refused}
+use Rattle.frames.specs.Answer.{replyNumber}
 use Rattle.stepper.specs.Exchange.{Outcome, exchange}
 use Rattle.stepper.specs.declared.session.Session.{Session}
 use Rattle.wko.specs.declared.session.Exchanged.{Exchanged}
-
-abbrev pub replyNumber : Reply → ℕ
-replyNumber (Accepted symbol level) = 0
-replyNumber (Refused cause) = causeNumber cause
 
 abbrev pub forC : Outcome → Exchanged × List ℕ
 forC o = (record { session = o .0 .session; number = replyNumber (o .0 .reply) }, o .1)

@@ -1,9 +1,7 @@
 // The session for firmware in C: a struct by value, and one call for a frame. Its contract is that of stepper's frame call.
 ghost use mathlib.Core.Path.{_≡_};
-ghost use Rattle.frames.specs.declared.answer.Reply.{Reply};
 ghost use Rattle.stepper.specs.Exchange.{fresh};
-ghost use Rattle.wko.specs.SessionCalls.{replyNumber, exchangeCall};
-use frames::answer::Reply;
+ghost use Rattle.wko.specs.SessionCalls.{exchangeCall};
 use stepper::session::Session;
 
 // The session after a frame, and 0 or the number of the refusal.
@@ -21,18 +19,6 @@ pub extern "C" fn wko_fresh() -> Session
     Session::fresh()
 }
 
-fn reply_number(reply: Reply) -> u32
-    ensures { λ r. ⌜ r ≡ replyNumber reply ⌝ }
-{
-    match reply {
-        Reply::Accepted {
-            symbol: _,
-            level: _,
-        } => 0,
-        Reply::Refused(cause) => refusals::number(cause) as u32,
-    }
-}
-
 // One frame.
 #[no_mangle]
 pub extern "C" fn wko_exchange(session: Session, frame: &[u8], answer: &mut [u8]) -> Exchanged
@@ -43,6 +29,6 @@ pub extern "C" fn wko_exchange(session: Session, frame: &[u8], answer: &mut [u8]
     let next = x.session;
     Exchanged {
         session: next,
-        number: reply_number(reply),
+        number: frames::answer::number(reply) as u32,
     }
 }

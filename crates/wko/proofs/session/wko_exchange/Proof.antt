@@ -8,16 +8,19 @@ use Rattle.wko.proofs.session.wko_exchange.Tie as tie
 exchange-requires : tie.Need-exchange-requires
 exchange-requires c κs = search needs
 
-reply-number-requires : tie.Need-reply-number-requires
-reply-number-requires c κs = search needs
+number-requires : tie.Need-number-requires
+number-requires c κs = search needs
+
+cast-t10 : tie.Need-cast-t10
+cast-t10 c = search needs
 
 same-length : tie.Need-same-length
 same-length c = search needs
 
 returns : tie.Need-returns
 unfolding exchangeCall
-returns c = rw (c .reply-number .ensures) (ap forC (c .before .before .before .before .exchange .ensures))
+returns c = rw (c .number .ensures) (ap forC (c .before .before .before .before .exchange .ensures))
 
 pub wko-exchange-spec : {M : Type 1} → statement M
 wko-exchange-spec =
-    tie.close (tie.spec exchange-requires reply-number-requires same-length returns)
+    tie.close (tie.spec exchange-requires number-requires cast-t10 same-length returns)

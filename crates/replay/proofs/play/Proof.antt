@@ -1,0 +1,90 @@
+-- `play`: the parts of the two buffers have the lengths asked for. Assumes nothing.
+use mathlib.Core.Path.{_≡_, sym}
+use Prim.Native.Nat.{_+_}
+use native.Mathlib.Omega.{arith}
+use lib.ListN.{length}
+use lib.Seq.{length-take-le}
+use borrow.Author.Needs.{needs}
+use Rattle.replay.proofs.play.Statement.{statement}
+use Rattle.replay.proofs.play.Tie as tie
+
+slice-aggregate-read-full : tie.Need-slice-aggregate-read-full
+slice-aggregate-read-full c = search needs
+
+read-full-requires : tie.Need-read-full-requires
+read-full-requires c κs = search needs
+
+returns : tie.Need-returns
+returns c = search needs
+
+array-read-wide : tie.Need-array-read-wide
+array-read-wide c = search needs
+
+wide-requires : tie.Need-wide-requires
+wide-requires c κs = search needs
+
+array-read-wide-2 : tie.Need-array-read-wide-2
+array-read-wide-2 c = search needs
+
+wide-requires-2 : tie.Need-wide-requires-2
+wide-requires-2 c κs = search needs
+
+buffer-requires : tie.Need-buffer-requires
+buffer-requires c κs = search needs
+
+filled-requires : tie.Need-filled-requires
+filled-requires c κs = search needs
+
+add-end : tie.Need-add-end
+add-end c = search needs
+
+array-borrow-prefix-frame : tie.Need-array-borrow-prefix-frame
+array-borrow-prefix-frame c = search needs
+
+slice-aggregate-respond : tie.Need-slice-aggregate-respond
+slice-aggregate-respond c =
+    let n = c .before .before .before .wide2 in
+    let b = c .before .before .buffer in
+    let l : length (b .result) ≡ 4096 = search needs in
+    sym (length-take-le (n .result) (b .result) (omega (arith, n .ensures)))
+
+array-borrow-prefix-out : tie.Need-array-borrow-prefix-out
+array-borrow-prefix-out c = search needs
+
+slice-aggregate-respond-2 : tie.Need-slice-aggregate-respond-2
+slice-aggregate-respond-2 c =
+    let n = c .before .before .before .before .before .wide in
+    let b = c .before .before .filled in
+    let l : length (b .result) ≡ 256 = search needs in
+    sym (length-take-le (1 + n .result) (b .result) (omega (arith, n .ensures)))
+
+respond-requires : tie.Need-respond-requires
+respond-requires c κs =
+    let n = c .before .before .before .before .before .wide in
+    let b = c .before .before .filled in
+    let l : length (b .result) ≡ 256 = search needs in
+    omega (arith, length-take-le (1 + n .result) (b .result) (omega (arith, n .ensures)))
+
+returns-2 : tie.Need-returns-2
+returns-2 c = search needs
+
+pub play-spec : {M : Type 1} → statement M
+play-spec =
+    tie.close
+    (tie.spec
+    slice-aggregate-read-full
+    read-full-requires
+    returns
+    array-read-wide
+    wide-requires
+    array-read-wide-2
+    wide-requires-2
+    buffer-requires
+    filled-requires
+    add-end
+    array-borrow-prefix-frame
+    slice-aggregate-respond
+    array-borrow-prefix-out
+    slice-aggregate-respond-2
+    respond-requires
+    returns-2)
