@@ -51,6 +51,40 @@ static void steps(int rule, int n, uint64_t count)
            sum ? "   THE ANSWERS DIFFER" : "");
 }
 
+/* Step frames through the session, beside the bare next symbol. */
+static void frames(int n, uint64_t count)
+{
+    uint8_t begin[40] = "WKO1B", step[40] = "WKO1S", answer[40], w[16];
+    struct wko_session s = wko_fresh();
+    double t0, t1, t2;
+    unsigned wrong = 0;
+    begin[5] = (uint8_t)n;
+    begin[6] = 1;
+    begin[18] = 100;
+    start_window(1, n, w);
+    memcpy(begin + 24, w, 16);
+    s = wko_exchange(s, begin, 40, answer, 40).session;
+    t0 = now();
+    for (uint64_t k = 1; k <= count; k++) {
+        struct wko_exchanged x;
+        for (int i = 0; i < 8; i++)
+            step[8 + i] = (uint8_t)(k >> (8 * i));
+        x = wko_exchange(s, step, 40, answer, 40);
+        wrong += x.number != 0;
+        s = x.session;
+    }
+    t1 = now();
+    for (uint64_t k = 1; k <= count; k++) {
+        uint32_t symbol = wko_next_symbol((uint64_t)n, 1, w, (size_t)n);
+        memmove(w, w + 1, (size_t)(n - 1));
+        w[n - 1] = (uint8_t)symbol;
+    }
+    t2 = now();
+    wrong += memcmp(w, s.window, (size_t)n) != 0;
+    printf("n = %2d   %9.0f step frames a second, %.2f of the time of wko_next_symbol%s\n", n, (double)count / (t1 - t0), (t1 - t0) / (t2 - t1),
+           wrong ? "   WRONG" : "");
+}
+
 static uint64_t random64(void)
 {
     static uint64_t x = 0x9E3779B97F4A7C15u;
@@ -97,6 +131,9 @@ int main(void)
     for (int rule = 1; rule <= 3; rule++)
         for (int n = 8; n <= 16; n += 4)
             steps(rule, n, 2000000);
+    printf("\nA session driven by step frames, rule 1, each frame and its answer.\n");
+    frames(8, 500000);
+    frames(16, 500000);
     printf("\nThe place of a random height window, and the window at a random place.\n");
     for (int n = 8; n <= 16; n += 4)
         places(n, n == 16 ? 500 : 5000);
