@@ -9,11 +9,9 @@ use lib.Dec.{leb}
 use lib.IntN.{ℤ, pos, negsuc, subℕ, _-ℤ_, +ℤ-idr}
 use lib.Signed.{leZ, ltZ}
 use borrow.Author.Tests.{lt-ltb, le-ltb, leb-true, le-leb}
+use Rattle.weak_orders.proofs.Tests.{says-le}
 use Rattle.weak_orders.specs.Says.{Says}
 use Rattle.weak_orders.proofs.Tests.{says-as, same-test, says-lt, says-not}
-
-pub says-le : (m n : ℕ) → Says (leb m n) (m ≤ n)
-says-le m n = record { to = leb-true m n; of = le-leb m n }
 
 -- a difference is negative, or it is not
 below : (p q : ℕ) → p < q → subℕ p q ≡ negsuc (q - suc p)

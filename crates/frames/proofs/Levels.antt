@@ -10,7 +10,8 @@ use borrow.Author.Tests.{le-ltb}
 use Rattle.weak_orders.proofs.Tests.{says-and, says-itself}
 use Rattle.frames.specs.declared.level.Setting.{Setting}
 use Rattle.frames.specs.Level.{spacings, levelOf, settingOk}
-use Rattle.frames.proofs.Differences.{says-le, as-difference, lower-difference, says-lt-difference, says-le-difference}
+use Rattle.frames.proofs.Differences.{as-difference, lower-difference, says-lt-difference, says-le-difference}
+use Rattle.weak_orders.proofs.Tests.{says-le}
 
 -- no integer is below itself
 lt-self : (z : ℤ) → ltZ z z ≡ false

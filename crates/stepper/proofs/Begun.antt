@@ -8,6 +8,7 @@ use lib.Dec.{eqb}
 use lib.ListN.{length, take, drop}
 use lib.Seq.{length-take-le}
 use borrow.Author.Tests.{eqb-false, not-false}
+use Rattle.weak_orders.proofs.FormTests.{says-length}
 use Rattle.weak_orders.specs.Says.{Says}
 use Rattle.weak_orders.specs.Window.{isLength}
 use Rattle.weak_orders.proofs.Padded.{take-padded, shifted-length}
@@ -24,16 +25,12 @@ use Rattle.frames.specs.Fields.{zeros}
 use Rattle.frames.specs.Level.{settingOk}
 use Rattle.frames.specs.Question.{isQuestion, kindIn, letterB, letterS, letterQ, numberIn, reservedB, reservedS, reservedQ}
 use Rattle.frames.specs.Answer.{accepted, stateReply}
-use Rattle.frames.proofs.Differences.{says-le}
+use Rattle.weak_orders.proofs.Tests.{says-le}
 use Rattle.frames.proofs.Padding.{unused-padded}
 use Rattle.stepper.specs.declared.session.Exchanged.{Exchanged}
 use Rattle.stepper.specs.declared.session.Session.{Session}
 use Rattle.stepper.specs.Exchange.{windowOk, beginReply, hasBegun, refuse, roundIn, beginFrame}
 use Rattle.stepper.specs.Exchange.{onward, stepped, stepOf, stepFrame, queryOf, queryFrame, handle}
-
-pub says-length : (n : ℕ) → Says (isLength n) ((1 ≤ n) × (n ≤ 16))
-unfolding isLength
-says-length n = says-and (says-le 1 n) (says-le n 16)
 
 -- What tests 6 to 9 say of a round.
 pub record RoundOk (n rule : ℕ) (window : List ℕ) (setting : Setting) : Type 0 where

@@ -3,10 +3,10 @@ use mathlib.Core.List.{List}
 use mathlib.Core.Logic.{_≢_}
 use mathlib.Core.Path.{_≡_}
 use Prim.Native.Nat.{ℕ, _≤_}
-use borrow.Author.Tests.{leb-true, le-leb, eq-eqb, ne-eqb}
+use borrow.Author.Tests.{eq-eqb, ne-eqb}
 use Rattle.weak_orders.specs.Says.{Says}
 use Rattle.weak_orders.specs.Window.{isRank, isHeight}
-use Rattle.weak_orders.proofs.Tests.{says-and}
+use Rattle.weak_orders.proofs.Tests.{says-le, says-and}
 use Rattle.successors.specs.Rules.{rule1, rule2, rule3, ruleOf, inForm, isRule}
 
 module _ (rule : ℕ) (w : List ℕ) where
@@ -33,4 +33,4 @@ module _ (rule : ℕ) (w : List ℕ) where
 -- The rules are numbered 1 to 3.
 pub says-rule : (rule : ℕ) → Says (isRule rule) ((1 ≤ rule) × (rule ≤ 3))
 unfolding isRule
-says-rule rule = says-and (record { to = leb-true 1 rule; of = le-leb 1 rule }) (record { to = leb-true rule 3; of = le-leb rule 3 })
+says-rule rule = says-and (says-le 1 rule) (says-le rule 3)

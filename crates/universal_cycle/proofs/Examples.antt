@@ -4,8 +4,8 @@ use mathlib.Core.Path.{refl}
 use native.Mathlib.Omega.{arith}
 use Rattle.weak_orders.specs.Window.{isRank, heights}
 use Rattle.weak_orders.specs.Rotation.{start}
-use Rattle.ranking.specs.Counts.{L, a}
-use Rattle.ranking.specs.Dictionary.{heightWindows, place}
+use Rattle.ranking.specs.Counts.{a}
+use Rattle.ranking.specs.Dictionary.{place}
 use Rattle.successors.specs.Rules.{rule1, rule2, rule3, ruleOf, inForm, isRule, step}
 use Rattle.universal_cycle.specs.Examples.{WorkedExamples, GivenValues, roundOf, SmallRounds}
 use Rattle.universal_cycle.specs.Round.{Tour, WeakOrder}
@@ -31,7 +31,7 @@ worked-examples = record {
 }
 
 pub given-values : GivenValues
-unfolding rule1 rule2 rule3 start isRank L a heightWindows
+unfolding rule1 rule2 rule3 start isRank
 given-values = record {
   rule1-321 = refl;
   start-3131 = refl;
@@ -41,10 +41,6 @@ given-values = record {
   rank-122 = refl;
   rank-113 = refl;
   not-rank-112 = refl;
-  a-6 = refl;
-  a-16 = refl;
-  L-4 = refl;
-  height-windows-3 = refl;
 }
 
 pub small-rounds : SmallRounds

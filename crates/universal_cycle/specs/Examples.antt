@@ -5,8 +5,8 @@ use mathlib.Core.Path.{_≡_}
 use Prim.Native.Nat.{ℕ, suc}
 use Rattle.weak_orders.specs.Window.{range, iter, isRank, heights}
 use Rattle.weak_orders.specs.Rotation.{start}
-use Rattle.ranking.specs.Counts.{L, a}
-use Rattle.ranking.specs.Dictionary.{heightWindows, place}
+use Rattle.ranking.specs.Counts.{a}
+use Rattle.ranking.specs.Dictionary.{place}
 use Rattle.successors.specs.Rules.{rule1, rule2, rule3, ruleOf, step}
 
 -- the fourteen examples that document 01 wants proved
@@ -26,7 +26,7 @@ pub record WorkedExamples : Type 0 where
   pub place-201 : place (2 ∷ 0 ∷ 1 ∷ []) ≡ 11
   pub heights-82512276 : heights (8 ∷ 2 ∷ 5 ∷ 1 ∷ 2 ∷ 2 ∷ 7 ∷ 6 ∷ []) ≡ (5 ∷ 1 ∷ 2 ∷ 0 ∷ 1 ∷ 1 ∷ 4 ∷ 3 ∷ [])
 
--- further values that the text of document 01 and 002 gives
+-- further values that the text of document 01 gives
 pub record GivenValues : Type 0 where
   pub rule1-321 : rule1 (3 ∷ 2 ∷ 1 ∷ []) ≡ 3
   pub start-3131 : start (3 ∷ 1 ∷ 3 ∷ 1 ∷ []) ≡ 2
@@ -36,24 +36,6 @@ pub record GivenValues : Type 0 where
   pub rank-122 : isRank (1 ∷ 2 ∷ 2 ∷ []) ≡ true
   pub rank-113 : isRank (1 ∷ 1 ∷ 3 ∷ []) ≡ true
   pub not-rank-112 : isRank (1 ∷ 1 ∷ 2 ∷ []) ≡ false
-  pub a-6 : a 6 ≡ 4683
-  pub a-16 : a 16 ≡ 5315654681981355
-  pub L-4 : (L 4 0 ∷ L 4 1 ∷ L 4 2 ∷ L 4 3 ∷ L 4 4 ∷ L 4 5 ∷ []) ≡ (0 ∷ 1 ∷ 14 ∷ 36 ∷ 24 ∷ 0 ∷ [])
-  pub height-windows-3 : heightWindows 3 ≡ (
-      (0 ∷ 0 ∷ 0 ∷ [])
-      ∷ (0 ∷ 0 ∷ 1 ∷ [])
-      ∷ (0 ∷ 1 ∷ 0 ∷ [])
-      ∷ (0 ∷ 1 ∷ 1 ∷ [])
-      ∷ (0 ∷ 1 ∷ 2 ∷ [])
-      ∷ (0 ∷ 2 ∷ 1 ∷ [])
-      ∷ (1 ∷ 0 ∷ 0 ∷ [])
-      ∷ (1 ∷ 0 ∷ 1 ∷ [])
-      ∷ (1 ∷ 0 ∷ 2 ∷ [])
-      ∷ (1 ∷ 1 ∷ 0 ∷ [])
-      ∷ (1 ∷ 2 ∷ 0 ∷ [])
-      ∷ (2 ∷ 0 ∷ 1 ∷ [])
-      ∷ (2 ∷ 1 ∷ 0 ∷ [])
-      ∷ [])
 
 -- the windows after the steps 1 to a(n) of a rule
 unfoldable pub roundOf : ℕ → ℕ → List ℕ → List (List ℕ)

@@ -9,7 +9,7 @@ use native.Mathlib.Decide.{ℕ-discrete, decLt}
 use lib.Dec.{ltb, eqb}
 use lib.ListN.{length, take, getD}
 use lib.Seq.{length-take-le}
-use borrow.Author.Tests.{leb-true, le-leb, lt-ltb, le-ltb}
+use borrow.Author.Tests.{lt-ltb, le-ltb}
 use Rattle.weak_orders.specs.Converted.{isRankWindow, isHeightWindow}
 use Rattle.weak_orders.specs.Says.{Says}
 use Rattle.weak_orders.specs.Tables.{tally, upto, Ranked, Unbroken}
@@ -19,7 +19,7 @@ use Rattle.weak_orders.proofs.Lists.{count-none, count-pos}
 use Rattle.weak_orders.proofs.RankForm.{says-rank, rank-le-length}
 use Rattle.weak_orders.proofs.Symbols.{num-mem, below-suc, below-zero}
 use Rattle.weak_orders.proofs.Tallies.{tally-num, tally-larger}
-use Rattle.weak_orders.proofs.Tests.{_∈_, not-true→false, false→not-true, says-no, says-as, says-itself, same-test, says-eq, says-and, says-not}
+use Rattle.weak_orders.proofs.Tests.{_∈_, not-true→false, false→not-true, says-no, says-as, says-itself, same-test, says-eq, says-le, says-and, says-not}
 
 -- ---- one turn of each loop
 
@@ -115,7 +115,7 @@ module _ (u : List ℕ) where
 -- the first n of an array, n from 1 to 16
 pub says-length : (n : ℕ) → Says (isLength n) ((1 ≤ n) × (n ≤ 16))
 unfolding isLength
-says-length n = says-and (record { to = leb-true 1 n; of = le-leb 1 n }) (record { to = leb-true n 16; of = le-leb n 16 })
+says-length n = says-and (says-le 1 n) (says-le n 16)
 
 -- a window in form has no symbol above 16
 module _ (w : List ℕ) (n : ℕ) (l : length w ≡ 16) (h : n ≤ 16) where

@@ -5,8 +5,8 @@ use mathlib.Core.Logic.{_⊎_, inl, inr, ⊎-elim}
 use mathlib.Core.Path.{_≡_, refl, sym, _∙_}
 use Prim.Native.Nat.{ℕ, _≤_, _<_}
 use native.Mathlib.Omega.{arith}
-use lib.Dec.{ltb, eqb}
-use borrow.Author.Tests.{ltb-true, lt-ltb, eqb-true, eq-eqb}
+use lib.Dec.{leb, ltb, eqb}
+use borrow.Author.Tests.{leb-true, le-leb, ltb-true, lt-ltb, eqb-true, eq-eqb}
 use Rattle.weak_orders.specs.Says.{Says}
 use Rattle.weak_orders.specs.Window.{all}
 
@@ -82,6 +82,9 @@ says-eq m n = record { to = eqb-true m n; of = eq-eqb m n }
 
 pub says-lt : (m n : ℕ) → Says (ltb m n) (m < n)
 says-lt m n = record { to = ltb-true m n; of = lt-ltb m n }
+
+pub says-le : (m n : ℕ) → Says (leb m n) (m ≤ n)
+says-le m n = record { to = leb-true m n; of = le-leb m n }
 
 pub says-and : {a b : Bool} {A B : Type 0} → Says a A → Says b B → Says (a && b) (A × B)
 says-and {a = true} s t = record { to = λ h. (s .to refl, t .to h); of = λ h. t .of (h .1) }

@@ -1,6 +1,7 @@
 -- `Session::onward` meets its contract: a session that has begun has a window to step. Assumes nothing.
 use Rattle.stepper.specs.Exchange.{onward}
-use Rattle.stepper.proofs.Begun.{says-length, says-begun}
+use Rattle.weak_orders.proofs.FormTests.{says-length}
+use Rattle.stepper.proofs.Begun.{says-begun}
 use Rattle.stepper.proofs.session.Session.onward.Statement.{statement}
 use Rattle.stepper.proofs.session.Session.onward.Tie as tie
 

@@ -6,7 +6,8 @@ use borrow.Author.Tests.{not-true, not-false}
 use Rattle.weak_orders.specs.Window.{isLength}
 use Rattle.ranking.specs.Counts.{a}
 use Rattle.stepper.specs.Exchange.{hasBegun, onward, stepped}
-use Rattle.stepper.proofs.Begun.{says-length, says-begun}
+use Rattle.weak_orders.proofs.FormTests.{says-length}
+use Rattle.stepper.proofs.Begun.{says-begun}
 use Rattle.stepper.proofs.Cases.{looked-up, not-begun, zero-number, resent, misnumbered, finished, steps}
 use borrow.Author.Needs.{needs}
 use Rattle.stepper.proofs.session.Session.step.Statement.{statement}

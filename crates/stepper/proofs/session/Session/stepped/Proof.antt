@@ -8,7 +8,7 @@ use mir.Val.{SFits}
 use borrow.Author.Needs.{sfits-of}
 use Rattle.frames.specs.Answer.{stepReply}
 use Rattle.stepper.specs.Exchange.{stepped}
-use Rattle.stepper.proofs.Begun.{says-length}
+use Rattle.weak_orders.proofs.FormTests.{says-length}
 use Rattle.stepper.proofs.Cases.{newest-at}
 use borrow.Author.Needs.{needs, sfits-of}
 use borrow.Author.Needs.{needs}
