@@ -4,7 +4,7 @@ CFLAGS = -std=c11 -O2 -Wall -Wextra -D_DEFAULT_SOURCE
 LIB = target/staticlib/libwko.a
 TESTS = target/host/test_calls target/host/test_session
 
-.PHONY: test run lib host-test bench clean
+.PHONY: test run lib host host-test bench clean
 
 test:
 	@.ci/run
@@ -17,7 +17,16 @@ $(LIB): crates.txt $(shell find crates -name '*.rt' -o -name '*.antt')
 	@mkdir -p target
 	@rt staticlib wko >target/staticlib.log 2>&1 || { tail -n 20 target/staticlib.log; exit 1; }
 
-host-test: $(TESTS)
+# The example bench host of the README.
+host: target/host/example
+	@echo "bench host: target/host/example"
+
+target/host/example: host/example.c include/wko.h $(LIB)
+	@mkdir -p target/host
+	@$(CC) $(CFLAGS) -Iinclude -o $@ host/example.c $(LIB)
+
+host-test: $(TESTS) target/host/example
+	@target/host/example | cmp - host/example.out
 	@for t in $(TESTS); do $$t || exit 1; done
 
 target/host/%: host/%.c $(wildcard host/*.h) host/reference.c host/session_model.c include/wko.h $(LIB)
