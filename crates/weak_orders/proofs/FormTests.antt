@@ -1,6 +1,7 @@
 -- The two forms by a table of counts. Assumes nothing.
 use mathlib.Core.Bool.{Bool, true, false, not, _&&_}
 use mathlib.Core.List.{List}
+use mathlib.Core.Logic.{_↔_}
 use mathlib.Core.Path.{_≡_, sym, _∙_}
 use Prim.Native.Nat.{ℕ, zero, suc, _+_, _<_, _≤_}
 use native.Mathlib.Omega.{arith}
@@ -19,7 +20,7 @@ use Rattle.weak_orders.proofs.Lists.{count-none, count-pos}
 use Rattle.weak_orders.proofs.RankForm.{says-rank, rank-le-length}
 use Rattle.weak_orders.proofs.Symbols.{num-mem, below-suc, below-zero}
 use Rattle.weak_orders.proofs.Tallies.{tally-num, tally-larger}
-use Rattle.weak_orders.proofs.Tests.{_∈_, not-true→false, false→not-true, says-no, says-as, says-itself, same-test, says-eq, says-le, says-and, says-not}
+use Rattle.weak_orders.proofs.Tests.{_∈_, false→not-true, says-as, says-itself, same-test, says-eq, says-le, says-and, says-not}
 
 -- ---- one turn of each loop
 
@@ -70,15 +71,15 @@ module _ (t : List ℕ) (v : ℕ) where
 
 -- ---- the table of a list
 
--- where a table has no larger symbols, each is at most 16
-pub tally-low : (u : List ℕ) → getD (tally u) 17 0 ≡ 0 → (x : ℕ) → x ∈ u → x ≤ 16
-tally-low u e x m = elim (decLt 16 x) [
-  | yes lt ↦ absurd (omega (arith, tally-larger u, count-pos (ltb 16) m (lt-ltb 16 x lt)))
-  | no le ↦ omega arith
-]
-
-pub tally-high : (u : List ℕ) → ¬ (getD (tally u) 17 0 ≡ 0) → ¬ ((x : ℕ) → x ∈ u → x ≤ 16)
-tally-high u ne low = ne (tally-larger u ∙ count-none (ltb 16) u (λ x m. le-ltb 16 x (low x m)))
+-- a table has no larger symbols just where each is at most 16
+pub says-low : (u : List ℕ) → (getD (tally u) 17 0 ≡ 0) ↔ ((x : ℕ) → x ∈ u → x ≤ 16)
+says-low u = (
+  λ e x m. elim (decLt 16 x) [
+    | yes lt ↦ absurd (omega (arith, tally-larger u, count-pos (ltb 16) m (lt-ltb 16 x lt)))
+    | no le ↦ omega arith
+  ],
+  λ low. tally-larger u ∙ count-none (ltb 16) u (λ x m. le-ltb 16 x (low x m)),
+)
 
 module _ (u : List ℕ) where
   upto-below : (v : ℕ) → v ≤ 17 → upto (tally u) v ≡ below u v
@@ -92,10 +93,17 @@ module _ (u : List ℕ) where
   of-has : (v : ℕ) → v ≤ 16 → 0 < getD (tally u) v 0 → v ∈ u
   of-has v le p = num-mem u v .0 (omega (arith, tally-num u v le))
 
-  pub ranked-rank : {r : Bool} → ((x : ℕ) → x ∈ u → x ≤ 16) → Says r (Ranked (tally u) 17) → r ≡ isRank u
-  ranked-rank low s = same-test (says-as s
-      (λ h x m. omega (arith, low x m, h x (omega (arith, low x m)) (has x (low x m) m), upto-below x (omega (arith, low x m))))
-      (λ h v lt pos. omega (arith, h v (of-has v (omega arith) pos), upto-below v (omega arith))))
+  -- the two tests, for lists whose form bounds their symbols
+  pub ranked-rank : {r : Bool} → (isRank u ≡ true → (x : ℕ) → x ∈ u → x ≤ 16) →
+      Says r ((getD (tally u) 17 0 ≡ 0) × Ranked (tally u) 17) → r ≡ isRank u
+  ranked-rank form s = same-test (says-as s
+      (λ (z, h) x m.
+      let low = says-low u .0 z x m in
+      omega (arith, low, h x (omega arith) (has x low m), upto-below x (omega arith)))
+      (λ h. (
+        says-low u .1 (form (says-rank u .of h)),
+        λ v lt pos. omega (arith, h v (of-has v (omega arith) pos), upto-below v (omega arith)),
+      )))
       (says-rank u)
 
   down : Unbroken (tally u) 16 → (x : ℕ) → x ≤ 16 → 0 < getD (tally u) x 0 → (y : ℕ) → y < x → 0 < getD (tally u) y 0
@@ -104,10 +112,16 @@ module _ (u : List ℕ) where
       let p : 0 < getD (tally u) x 0 = b x (omega arith) pos in
       elim (decLt y x) [ yes l ↦ down b x (omega arith) p y l | no l ↦ let q : y ≡ x = omega arith in rw q p ]
 
-  pub unbroken-height : {r : Bool} → ((x : ℕ) → x ∈ u → x ≤ 16) → Says r (Unbroken (tally u) 16) → r ≡ isHeight u
-  unbroken-height low s = same-test (says-as s
-      (λ b x m y lt. of-has y (omega (arith, low x m)) (down b x (low x m) (has x (low x m) m) y lt))
-      (λ h v lt pos. has v (omega arith) (h (suc v) (of-has (suc v) (omega arith) pos) v (omega arith))))
+  pub unbroken-height : {r : Bool} → (isHeight u ≡ true → (x : ℕ) → x ∈ u → x ≤ 16) →
+      Says r ((getD (tally u) 17 0 ≡ 0) × Unbroken (tally u) 16) → r ≡ isHeight u
+  unbroken-height form s = same-test (says-as s
+      (λ (z, b) x m y lt.
+      let low = says-low u .0 z x m in
+      of-has y (omega arith) (down b x low (has x low m) y lt))
+      (λ h. (
+        says-low u .1 (form (says-height u .of h)),
+        λ v lt pos. has v (omega arith) (h (suc v) (of-has (suc v) (omega arith) pos) v (omega arith)),
+      )))
       (says-height u)
 
 -- ---- a window in an array
@@ -130,9 +144,9 @@ module _ (w : List ℕ) (n : ℕ) (l : length w ≡ 16) (h : n ≤ 16) where
 
 -- the two tests, case by case
 module _ (w : List ℕ) (n : ℕ) (l : length w ≡ 16) where
-  pub no-length : ¬ ((1 ≤ n) × (n ≤ 16)) → (false ≡ isRankWindow n w) × (false ≡ isHeightWindow n w)
+  pub no-length : isLength n ≡ false → (false ≡ isRankWindow n w) × (false ≡ isHeightWindow n w)
   unfolding isRankWindow isHeightWindow
-  no-length no′ = let e = says-no (says-length n) no′ in (rw e, rw e)
+  no-length e = (rw e, rw e)
 
   module _ (pos : 1 ≤ n) (h : n ≤ 16) where
     long : isLength n ≡ true
@@ -146,19 +160,12 @@ module _ (w : List ℕ) (n : ℕ) (l : length w ≡ 16) where
     unfolding isHeightWindow
     height-as e = rw long e
 
-    module _ (t : List ℕ) (e : t ≡ tally (take n w)) where
-      pub large-symbol : ¬ (getD t 17 0 ≡ 0) → (false ≡ isRankWindow n w) × (false ≡ isHeightWindow n w)
-      large-symbol ne =
-          let high = tally-high (take n w) (rw e at ne) in (
-            rank-as (sym (not-true→false _ (λ r. high (rank-low w n l h r)))),
-            height-as (sym (not-true→false _ (λ r. high (λ x m. omega (arith, height-low w n l h r x m))))),
-          )
+    module _ (t : List ℕ) (e : t ≡ tally (take n w)) {r : Bool} where
+      pub rank-by-table : Says r ((getD t 17 0 ≡ 0) × Ranked t 17) → r ≡ isRankWindow n w
+      rank-by-table s = rank-as (ranked-rank (take n w) (rank-low w n l h) (rw e at s))
 
-      pub rank-by-table : getD t 17 0 ≡ 0 → {r : Bool} → Says r (Ranked t 17) → r ≡ isRankWindow n w
-      rank-by-table z s = rank-as (ranked-rank (take n w) (tally-low (take n w) (rw e at z)) (rw e at s))
-
-      pub height-by-table : getD t 17 0 ≡ 0 → {r : Bool} → Says r (Unbroken t 16) → r ≡ isHeightWindow n w
-      height-by-table z s = height-as (unbroken-height (take n w) (tally-low (take n w) (rw e at z)) (rw e at s))
+      pub height-by-table : Says r ((getD t 17 0 ≡ 0) × Unbroken t 16) → r ≡ isHeightWindow n w
+      height-by-table s = height-as (unbroken-height (take n w) (λ f x m. omega (arith, height-low w n l h f x m)) (rw e at s))
 
 -- and back: a window that passes the test
 pub of-rank-window : (w : List ℕ) (n : ℕ) → isRankWindow n w ≡ true → (1 ≤ n) × (n ≤ 16) × (isRank (take n w) ≡ true)

@@ -6,7 +6,7 @@ ghost use mathlib.Core.Path.{_≡_};
 ghost use Prim.Native.Nat.{min, suc, _≤_, _<_, _%_, _^_};
 ghost use lib.Count.{ones};
 ghost use lib.Dec.{ltb};
-ghost use lib.ListN.{take, drop};
+ghost use lib.ListN.{getD, take, drop};
 ghost use Rattle.weak_orders.specs.Says.{Says};
 ghost use Rattle.weak_orders.specs.Window.{below, height, heights, ranks, isLength, padded, shifted};
 ghost use Rattle.weak_orders.specs.Tables.{tally, Ranked, Unbroken, bitOf, bitsOf};
@@ -41,10 +41,13 @@ pub fn counts(w: [u8; 16], a: usize, n: usize) -> [u8; 18]
     t
 }
 
-// Each symbol that the table has is one more than the number of places below it.
+// The table has no larger symbols, and each that it has is one more than the number of places below it.
 fn ranked(t: [u8; 18]) -> bool
-    ensures { λ r. ⌜ Says r (Ranked t 17) ⌝ }
+    ensures { λ r. ⌜ Says r ((getD t 17 0 ≡ 0) × Ranked t 17) ⌝ }
 {
+    if t[17] != 0 {
+        return false;
+    }
     let mut seen: usize = 0;
     let mut v = 0;
     while v < 17 {
@@ -57,10 +60,13 @@ fn ranked(t: [u8; 18]) -> bool
     true
 }
 
-// With each symbol the table has the one below it.
+// The table has no larger symbols, and with each symbol it has the one below it.
 fn unbroken(t: [u8; 18]) -> bool
-    ensures { λ r. ⌜ Says r (Unbroken t 16) ⌝ }
+    ensures { λ r. ⌜ Says r ((getD t 17 0 ≡ 0) × Unbroken t 16) ⌝ }
 {
+    if t[17] != 0 {
+        return false;
+    }
     let mut v = 0;
     while v < 16 {
         if (t[v] == 0) & (t[v + 1] != 0) {
@@ -71,38 +77,31 @@ fn unbroken(t: [u8; 18]) -> bool
     true
 }
 
+// Test 6 of document 01: n is 1 to 16.
+pub fn is_length(n: usize) -> bool
+    ensures { λ r. ⌜ r ≡ isLength n ⌝ }
+{
+    (1 <= n) & (n <= 16)
+}
+
 // The first n symbols are a weak order of n in rank form.
 pub fn is_rank(w: [u8; 16], n: usize) -> bool
     ensures { λ r. ⌜ r ≡ isRankWindow n w ⌝ }
 {
-    if n == 0 {
+    if !is_length(n) {
         return false;
     }
-    if 16 < n {
-        return false;
-    }
-    let t = counts(w, 0, n);
-    if t[17] != 0 {
-        return false;
-    }
-    ranked(t)
+    ranked(counts(w, 0, n))
 }
 
 // The first n symbols are a weak order of n in height form.
 pub fn is_height(w: [u8; 16], n: usize) -> bool
     ensures { λ r. ⌜ r ≡ isHeightWindow n w ⌝ }
 {
-    if n == 0 {
+    if !is_length(n) {
         return false;
     }
-    if 16 < n {
-        return false;
-    }
-    let t = counts(w, 0, n);
-    if t[17] != 0 {
-        return false;
-    }
-    unbroken(t)
+    unbroken(counts(w, 0, n))
 }
 
 // The first sixteen bytes of a slice as a window, with zeros behind.
@@ -123,10 +122,7 @@ pub fn load(s: &[u8]) -> [u8; 16]
 pub fn shift(w: [u8; 16], n: usize, s: u8) -> [u8; 16]
     ensures { λ r. ⌜ r ≡ cond (isLength n) (padded (shifted (take n w) s)) w ⌝ }
 {
-    if n == 0 {
-        return w;
-    }
-    if 16 < n {
+    if !is_length(n) {
         return w;
     }
     let mut v = [0u8; 16];

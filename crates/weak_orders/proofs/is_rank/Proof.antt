@@ -1,38 +1,38 @@
 -- `is_rank`: by the table of counts. Assumes nothing.
-use native.Mathlib.Omega.{arith}
-use Rattle.weak_orders.proofs.FormTests.{no-length, large-symbol, rank-by-table}
+use mathlib.Core.Path.{sym, _∙_}
+use borrow.Author.Tests.{not-true, not-false}
+use Rattle.weak_orders.proofs.FormTests.{says-length, no-length, rank-by-table}
 use borrow.Author.Needs.{needs}
 use Rattle.weak_orders.proofs.is_rank.Statement.{statement}
 use Rattle.weak_orders.proofs.is_rank.Tie as tie
+use Rattle.weak_orders.proofs.is_rank.Reads as reads
+use Rattle.weak_orders.proofs.is_rank.Lts as lts
+use Rattle.weak_orders.proofs.counts.Reads as counts-reads
+use Rattle.weak_orders.proofs.is_length.Reads as is-length-reads
+use Rattle.weak_orders.proofs.ranked.Reads as ranked-reads
+
+is-length-requires : tie.Need-is-length-requires
+is-length-requires c κs = search needs
 
 returns : tie.Need-returns
-returns c = no-length (c .before .args .w) (c .before .args .n) (search needs) (λ (a, b). omega arith) .0
-
-returns-2 : tie.Need-returns-2
-returns-2 c = no-length (c .before .before .args .w) (c .before .before .args .n) (search needs) (λ (a, b). omega arith) .0
+returns c =
+    let l = c .before .is-length in
+    no-length (c .before .before .args .w) (c .before .before .args .n) (search needs) (sym (l .ensures) ∙ not-true (l .result) (c .if1 .taken)) .0
 
 counts-requires : tie.Need-counts-requires
 counts-requires c κs = search needs
 
-array-read-if3 : tie.Need-array-read-if3
-array-read-if3 c = search needs
-
-returns-3 : tie.Need-returns-3
-returns-3 c =
-    let a = c .before .before .before .before .args in
-    let counted = c .before .counts in
-    large-symbol (a .w) (a .n) (search needs) (omega arith) (omega arith) (counted .result) (counted .ensures) (c .if3 .taken) .0
-
 ranked-requires : tie.Need-ranked-requires
 ranked-requires c κs = search needs
 
-returns-4 : tie.Need-returns-4
-returns-4 c =
-    let a = c .before .before .before .before .before .args in
-    let counted = c .before .before .counts in
-    rank-by-table (a .w) (a .n) (search needs) (omega arith) (omega arith) (counted .result) (counted .ensures) (c .before .if3 .left) (c .ranked .ensures)
+returns-2 : tie.Need-returns-2
+returns-2 c =
+    let a = c .before .before .before .before .args in
+    let l = c .before .before .before .is-length in
+    let (pos, le) = says-length (a .n) .to (sym (l .ensures) ∙ not-false (l .result) (c .before .before .if1 .left)) in
+    let t = c .before .counts in
+    rank-by-table (a .w) (a .n) (search needs) pos le (t .result) (t .ensures) (c .ranked .ensures)
 
 pub is-rank-spec : {M : Type 1} → statement M
 is-rank-spec =
-    tie.close
-    (tie.spec returns returns-2 counts-requires array-read-if3 returns-3 ranked-requires returns-4)
+    tie.close (tie.spec is-length-requires returns counts-requires ranked-requires returns-2)

@@ -2,7 +2,7 @@
 use borrow.Author.Needs.{needs}
 use mathlib.Core.Bool.{false≢true}
 use mathlib.Core.Path.{_≡_, refl}
-use Prim.Native.Nat.{_≤_, _-_, _*_}
+use Prim.Native.Nat.{ℕ, _≤_, _-_, _*_}
 use native.Mathlib.Omega.{arith}
 use lib.ListN.{getD}
 use mir.Syntax.{w8}
@@ -11,6 +11,8 @@ use Rattle.weak_orders.specs.Tables.{upto, Ranked}
 use Rattle.weak_orders.proofs.FormTests.{ranked-fails, ranked-more, upto-more}
 use Rattle.weak_orders.proofs.ranked.Statement.{statement}
 use Rattle.weak_orders.proofs.ranked.Tie as tie
+use Rattle.weak_orders.proofs.ranked.Reads as reads
+use Rattle.weak_orders.proofs.ranked.Lts as lts
 
 abbrev Inv-loop : tie.InvT-loop
 Inv-loop t seen₀ v₀ seen v = (v ≤ 17) × (seen ≡ upto t v) × Ranked t v × (seen ≤ 255 * v)
@@ -18,33 +20,40 @@ Inv-loop t seen₀ v₀ seen v = (v ≤ 17) × (seen ≡ upto t v) × Ranked t v
 abbrev μ-loop : tie.MeasureT-loop
 μ-loop t seen₀ v₀ seen v = 17 - v
 
+array-read-if1 : tie.Need-array-read-if1 Inv-loop μ-loop
+array-read-if1 c = search needs
+
+returns : tie.Need-returns Inv-loop μ-loop
+returns c = record { to = λ e. absurd (false≢true e); of = λ h. absurd (c .if1 .taken (h .0)) }
+
 loop-holds : tie.Need-loop-holds Inv-loop μ-loop
 unfolding upto
 loop-holds c = (search needs, search needs, λ k p q. absurd (omega arith), search needs)
 
-array-read-if1 : tie.Need-array-read-if1 Inv-loop μ-loop
-array-read-if1 c = search needs
+array-read-if2 : tie.Need-array-read-if2 Inv-loop μ-loop
+array-read-if2 c = search needs
 
-add-if1 : tie.Need-add-if1 Inv-loop μ-loop
-add-if1 c = search needs
+add-if2 : tie.Need-add-if2 Inv-loop μ-loop
+add-if2 c = search needs
 
-returns : tie.Need-returns Inv-loop μ-loop
-returns c =
+returns-2 : tie.Need-returns-2 Inv-loop μ-loop
+returns-2 c =
     let p = c .before .before .loop in
-    let fails = ranked-fails (c .before .before .before .args .t1) (p .seen) (p .v) (p .inv .1) 17 (c .before .loop-test .taken) (c .if1 .taken) in
-    record { to = λ e. absurd (false≢true e); of = λ h. absurd (fails h) }
+    let t = c .before .before .before .before .args .t1 in
+    let fails = ranked-fails t (p .seen) (p .v) (p .inv .1) 17 (c .before .loop-test .taken) (c .if2 .taken) in
+    record { to = λ e. absurd (false≢true e); of = λ h. absurd (fails (h .1)) }
 
 array-read-seen : tie.Need-array-read-seen Inv-loop μ-loop
 array-read-seen c = search needs
 
 cast-seen : tie.Need-cast-seen Inv-loop μ-loop
 cast-seen c =
-    let h : Fits w8 (getD (c .before .before .before .args .t1) (c .before .before .loop .v) 0) = search needs in
+    let h : Fits w8 (getD (c .before .before .before .before .args .t1) (c .before .before .loop .v) 0) = search needs in
     record { fits = omega (arith, h .fits) }
 
 add-seen : tie.Need-add-seen Inv-loop μ-loop
 add-seen c =
-    let h : Fits w8 (getD (c .before .before .before .args .t1) (c .before .before .loop .v) 0) = search needs in
+    let h : Fits w8 (getD (c .before .before .before .before .args .t1) (c .before .before .loop .v) 0) = search needs in
     omega (arith, h .fits)
 
 add-v : tie.Need-add-v Inv-loop μ-loop
@@ -56,16 +65,17 @@ loop-less c = search needs
 loop-again : tie.Need-loop-again Inv-loop μ-loop
 loop-again c =
     let p = c .before .before .loop in
-    let t = c .before .before .before .args .t1 in
-    let h : Fits w8 (getD t (p .v) 0) = search needs in (
+    let t = c .before .before .before .before .args .t1 in
+    let h : Fits w8 (getD t (p .v) 0) = search needs in
+    (
       omega arith,
       upto-more t (p .seen) (p .v) (p .inv .1),
-      ranked-more t (p .seen) (p .v) (p .inv .1) (c .if1 .left) (p .inv .2),
+      ranked-more t (p .seen) (p .v) (p .inv .1) (c .if2 .left) (p .inv .2),
       omega (arith, h .fits),
     )
 
-returns-2 : tie.Need-returns-2 Inv-loop μ-loop
-returns-2 c = record { to = λ e k l q. c .before .loop .inv .2 k (omega arith) q; of = λ h. refl }
+returns-3 : tie.Need-returns-3 Inv-loop μ-loop
+returns-3 c = record { to = λ e. (c .before .before .if1 .left, λ k l q. c .before .loop .inv .2 k (omega arith) q); of = λ h. refl }
 
 pub ranked-spec : {M : Type 1} → statement M
 ranked-spec =
@@ -73,14 +83,16 @@ ranked-spec =
     (tie.spec
     Inv-loop
     μ-loop
-    loop-holds
     array-read-if1
-    add-if1
     returns
+    loop-holds
+    array-read-if2
+    add-if2
+    returns-2
     array-read-seen
     cast-seen
     add-seen
     add-v
     loop-less
     loop-again
-    returns-2)
+    returns-3)

@@ -1,31 +1,38 @@
 -- `shift`: the array holds the symbols moved so far. Assumes nothing.
 use borrow.Author.Needs.{needs}
-use mathlib.Core.Path.{_≡_, refl}
+use mathlib.Core.Path.{_≡_, refl, sym, _∙_}
 use Prim.Native.Nat.{_≤_, _-_, _+_}
 use native.Mathlib.Omega.{arith}
 use lib.ListN.{length, take, length-set}
+use borrow.Author.Tests.{not-true, not-false}
 use Rattle.weak_orders.specs.Window.{padded, shifted}
 use Rattle.weak_orders.proofs.Padded.{padded-next, padded-all, shifted-length, shifted-at, shifted-last}
-use Rattle.weak_orders.proofs.Tests.{says-no}
 use Rattle.weak_orders.proofs.FormTests.{says-length}
 use Rattle.weak_orders.proofs.shift.Statement.{statement}
 use Rattle.weak_orders.proofs.shift.Tie as tie
+use Rattle.weak_orders.proofs.shift.Reads as reads
+use Rattle.weak_orders.proofs.shift.Lts as lts
+use Rattle.weak_orders.proofs.is_length.Reads as is-length-reads
 
 abbrev Inv-loop : tie.InvT-loop
-Inv-loop n s w v₀ i₀ v i = (i ≤ n - 1) × (v ≡ padded (take i (shifted (take n w) s))) × (length v ≡ 16)
+Inv-loop n s w v₀ i₀ v i =
+    (1 ≤ n) × (n ≤ 16) × (i ≤ n - 1) × (v ≡ padded (take i (shifted (take n w) s))) × (length v ≡ 16)
 
 abbrev μ-loop : tie.MeasureT-loop
 μ-loop n s w v₀ i₀ v i = n - 1 - i
 
-returns : tie.Need-returns Inv-loop μ-loop
-returns c = rw (says-no (says-length (c .before .args .n)) (λ (a, b). omega arith))
+is-length-requires : tie.Need-is-length-requires Inv-loop μ-loop
+is-length-requires c κs = search needs
 
-returns-2 : tie.Need-returns-2 Inv-loop μ-loop
-returns-2 c = rw (says-no (says-length (c .before .before .args .n)) (λ (a, b). omega arith))
+returns : tie.Need-returns Inv-loop μ-loop
+returns c = rw (sym (c .before .is-length .ensures) ∙ not-true (c .before .is-length .result) (c .if1 .taken))
 
 loop-holds : tie.Need-loop-holds Inv-loop μ-loop
 unfolding padded
-loop-holds c = (search needs, refl, search needs)
+loop-holds c =
+    let l = c .before .is-length in
+    let (pos, le) = says-length (c .before .before .args .n) .to (sym (l .ensures) ∙ not-false (l .result) (c .if1 .left)) in
+    (pos, le, search needs, refl, search needs)
 
 sub-loop : tie.Need-sub-loop Inv-loop μ-loop
 sub-loop c = search needs
@@ -50,18 +57,21 @@ loop-again c =
     let a = c .before .before .before .before .args in
     let p = c .before .loop in
     let l : length (a .t1) ≡ 16 = search needs in
-    let long = shifted-length (a .t1) (a .n) (a .s) l (omega arith) (omega arith) in (
+    let long = shifted-length (a .t1) (a .n) (a .s) l (omega arith) (omega arith) in
+    (
       omega arith,
-      padded-next (shifted (take (a .n) (a .t1)) (a .s)) (p .v) (p .i) _ (omega arith) (omega arith) (p .inv .1)
+      omega arith,
+      omega arith,
+      padded-next (shifted (take (a .n) (a .t1)) (a .s)) (p .v) (p .i) _ (omega arith) (omega arith) (p .inv .3)
           (shifted-at (a .t1) (a .n) (a .s) l (omega arith) (omega arith) (p .i) (omega arith)),
-      simp length-set (p .inv .2),
+      simp length-set (p .inv .4),
     )
 
 array-write-v-2 : tie.Need-array-write-v-2 Inv-loop μ-loop
 array-write-v-2 c = search needs
 
-returns-3 : tie.Need-returns-3 Inv-loop μ-loop
-returns-3 c =
+returns-2 : tie.Need-returns-2 Inv-loop μ-loop
+returns-2 c =
     let a = c .before .before .before .before .args in
     let p = c .before .loop in
     let l : length (a .t1) ≡ 16 = search needs in
@@ -69,7 +79,7 @@ returns-3 c =
     let long : length after ≡ a .n = shifted-length (a .t1) (a .n) (a .s) l (omega arith) (omega arith) in
     let last = shifted-last (a .t1) (a .n) (a .s) l (omega arith) (omega arith) (p .i) (omega arith) in
     rw (says-length (a .n) .of (omega arith, omega arith))
-    (padded-all after _ (p .i + 1) (omega arith) (padded-next after (p .v) (p .i) (a .s) (omega arith) (omega arith) (p .inv .1) last))
+    (padded-all after _ (p .i + 1) (omega arith) (padded-next after (p .v) (p .i) (a .s) (omega arith) (omega arith) (p .inv .3) last))
 
 pub shift-spec : {M : Type 1} → statement M
 shift-spec =
@@ -77,8 +87,8 @@ shift-spec =
     (tie.spec
     Inv-loop
     μ-loop
+    is-length-requires
     returns
-    returns-2
     loop-holds
     sub-loop
     add-v
@@ -88,4 +98,4 @@ shift-spec =
     loop-less
     loop-again
     array-write-v-2
-    returns-3)
+    returns-2)
