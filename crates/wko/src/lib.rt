@@ -10,7 +10,6 @@ ghost use Prim.Native.Nat.{_≤_};
 ghost use lib.ListN.{length, take, drop};
 ghost use Rattle.refusals.specs.declared.Cause.{Cause};
 ghost use Rattle.ranking.specs.declared.Placed.{Placed};
-ghost use Rattle.weak_orders.specs.Window.{isLength};
 ghost use Rattle.successors.specs.Rules.{isRule};
 ghost use Rattle.wko.specs.Calls.{refusal, lengthTests, given, placeBytes, givenPlace, answerOf};
 ghost use Rattle.wko.specs.Calls.{nextSymbolCall, rankToHeightCall, heightToRankCall, placeCall, windowAtCall};
@@ -23,13 +22,6 @@ fn refused(cause: Cause) -> u32
     ensures { λ r. ⌜ r ≡ refusal cause ⌝ }
 {
     256 + refusals::number(cause) as u32
-}
-
-// Test 6.
-fn is_length(n: u64) -> bool
-    ensures { λ r. ⌜ r ≡ isLength n ⌝ }
-{
-    (1 <= n) & (n <= 16)
 }
 
 // Test 7.
@@ -54,7 +46,7 @@ fn answer(next: Next) -> u32
 pub extern "C" fn wko_next_symbol(n: u64, rule: u64, window: &[u8]) -> u32
     ensures { λ r. ⌜ r ≡ nextSymbolCall n rule (now (window .entry)) ⌝ }
 {
-    if !is_length(n) {
+    if !weak_orders::is_length(n as usize) {
         return refused(Cause::WindowLength);
     }
     if !is_rule(rule) {
@@ -70,7 +62,7 @@ pub extern "C" fn wko_next_symbol(n: u64, rule: u64, window: &[u8]) -> u32
 fn length_tests(n: u64, need: u64, window: usize, out: usize) -> u32
     ensures { λ r. ⌜ r ≡ lengthTests n need window out ⌝ }
 {
-    if !is_length(n) {
+    if !weak_orders::is_length(n as usize) {
         return refused(Cause::WindowLength);
     }
     if (out as u64) < need {
