@@ -135,7 +135,7 @@ impl Session {
         next
     }
 
-    // An accepted step, first or resent, left this session: its newest symbol and that symbol's level.
+    // An accepted step, first or resent, left the session: its newest symbol and that symbol's level.
     fn stepped(self) -> Exchanged
         requires { ⌜ isLength (self .n) ≡ true ⌝ }
         ensures { λ r. ⌜ r ≡ stepped self ⌝ }

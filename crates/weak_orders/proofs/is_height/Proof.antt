@@ -5,11 +5,6 @@ use Rattle.weak_orders.proofs.FormTests.{says-length, no-length, height
 use borrow.Author.Needs.{needs}
 use Rattle.weak_orders.proofs.is_height.Statement.{statement}
 use Rattle.weak_orders.proofs.is_height.Tie as tie
-use Rattle.weak_orders.proofs.is_height.Reads as reads
-use Rattle.weak_orders.proofs.is_height.Lts as lts
-use Rattle.weak_orders.proofs.counts.Reads as counts-reads
-use Rattle.weak_orders.proofs.is_length.Reads as is-length-reads
-use Rattle.weak_orders.proofs.unbroken.Reads as unbroken-reads
 
 is-length-requires : tie.Need-is-length-requires
 is-length-requires c κs = search needs

@@ -5,11 +5,6 @@ use Rattle.weak_orders.proofs.FormTests.{says-length, no-length, rank-b
 use borrow.Author.Needs.{needs}
 use Rattle.weak_orders.proofs.is_rank.Statement.{statement}
 use Rattle.weak_orders.proofs.is_rank.Tie as tie
-use Rattle.weak_orders.proofs.is_rank.Reads as reads
-use Rattle.weak_orders.proofs.is_rank.Lts as lts
-use Rattle.weak_orders.proofs.counts.Reads as counts-reads
-use Rattle.weak_orders.proofs.is_length.Reads as is-length-reads
-use Rattle.weak_orders.proofs.ranked.Reads as ranked-reads
 
 is-length-requires : tie.Need-is-length-requires
 is-length-requires c κs = search needs

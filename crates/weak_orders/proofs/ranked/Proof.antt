@@ -2,7 +2,7 @@
 use borrow.Author.Needs.{needs}
 use mathlib.Core.Bool.{false≢true}
 use mathlib.Core.Path.{_≡_, refl}
-use Prim.Native.Nat.{ℕ, _≤_, _-_, _*_}
+use Prim.Native.Nat.{_≤_, _-_, _*_}
 use native.Mathlib.Omega.{arith}
 use lib.ListN.{getD}
 use mir.Syntax.{w8}
@@ -11,8 +11,6 @@ use Rattle.weak_orders.specs.Tables.{upto, Ranked}
 use Rattle.weak_orders.proofs.FormTests.{ranked-fails, ranked-more, upto-more}
 use Rattle.weak_orders.proofs.ranked.Statement.{statement}
 use Rattle.weak_orders.proofs.ranked.Tie as tie
-use Rattle.weak_orders.proofs.ranked.Reads as reads
-use Rattle.weak_orders.proofs.ranked.Lts as lts
 
 abbrev Inv-loop : tie.InvT-loop
 Inv-loop t seen₀ v₀ seen v = (v ≤ 17) × (seen ≡ upto t v) × Ranked t v × (seen ≤ 255 * v)
@@ -66,8 +64,7 @@ loop-again : tie.Need-loop-again Inv-loop μ-loop
 loop-again c =
     let p = c .before .before .loop in
     let t = c .before .before .before .before .args .t1 in
-    let h : Fits w8 (getD t (p .v) 0) = search needs in
-    (
+    let h : Fits w8 (getD t (p .v) 0) = search needs in (
       omega arith,
       upto-more t (p .seen) (p .v) (p .inv .1),
       ranked-more t (p .seen) (p .v) (p .inv .1) (c .if2 .left) (p .inv .2),

@@ -10,9 +10,6 @@ use Rattle.weak_orders.proofs.Padded.{padded-next, padded-all, shifted-
 use Rattle.weak_orders.proofs.FormTests.{says-length}
 use Rattle.weak_orders.proofs.shift.Statement.{statement}
 use Rattle.weak_orders.proofs.shift.Tie as tie
-use Rattle.weak_orders.proofs.shift.Reads as reads
-use Rattle.weak_orders.proofs.shift.Lts as lts
-use Rattle.weak_orders.proofs.is_length.Reads as is-length-reads
 
 abbrev Inv-loop : tie.InvT-loop
 Inv-loop n s w v₀ i₀ v i =
@@ -57,8 +54,7 @@ loop-again c =
     let a = c .before .before .before .before .args in
     let p = c .before .loop in
     let l : length (a .t1) ≡ 16 = search needs in
-    let long = shifted-length (a .t1) (a .n) (a .s) l (omega arith) (omega arith) in
-    (
+    let long = shifted-length (a .t1) (a .n) (a .s) l (omega arith) (omega arith) in (
       omega arith,
       omega arith,
       omega arith,

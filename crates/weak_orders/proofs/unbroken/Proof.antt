@@ -1,15 +1,13 @@
 -- `unbroken`: no symbol passed is missing below one that is there. Assumes nothing.
 use borrow.Author.Needs.{needs}
 use mathlib.Core.Bool.{false≢true}
-use mathlib.Core.Path.{_≡_, refl}
+use mathlib.Core.Path.{refl}
 use Prim.Native.Nat.{_≤_, _-_}
 use native.Mathlib.Omega.{arith}
 use Rattle.weak_orders.specs.Tables.{Unbroken}
 use Rattle.weak_orders.proofs.FormTests.{unbroken-fails, unbroken-more}
 use Rattle.weak_orders.proofs.unbroken.Statement.{statement}
 use Rattle.weak_orders.proofs.unbroken.Tie as tie
-use Rattle.weak_orders.proofs.unbroken.Reads as reads
-use Rattle.weak_orders.proofs.unbroken.Lts as lts
 
 abbrev Inv-loop : tie.InvT-loop
 Inv-loop t v₀ v = (v ≤ 16) × Unbroken t v
