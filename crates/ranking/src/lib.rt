@@ -26,14 +26,14 @@ pub fn weak_order_count(n: usize) -> u64
     counts[n]
 }
 
-// L(n, k), the weak orders of n with exactly k different symbols; 0 outside the table.
+// L(n, k), the weak orders of n with exactly k different symbols; 0 outside the table. No table is asked for more symbols than places.
 pub fn weak_order_count_with(n: usize, k: usize) -> u64
     ensures { λ r. ⌜ r ≡ cond (leb n 16 && leb k 16) (L n k) 0 ⌝ }
 {
     if 16 < n {
         return 0;
     }
-    if 16 < k {
+    if n < k {
         return 0;
     }
     let counts = tables::by_symbols();

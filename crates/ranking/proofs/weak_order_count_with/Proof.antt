@@ -1,7 +1,10 @@
 -- `ranking::weak_order_count_with` meets its contract: the table's test, carried to the entry. Assumes nothing.
 use Prim.Native.Nat.{_≤_}
 use borrow.Author.Needs.{needs}
+use lib.Dec.{leb}
 use borrow.Author.Tests.{lt-leb, le-leb}
+use Rattle.weak_orders.proofs.Tests.{by-test}
+use Rattle.ranking.proofs.CountLaws.{L-none}
 use Rattle.ranking.proofs.Tabled.{entry-L}
 use Rattle.ranking.proofs.weak_order_count_with.Statement.{statement}
 use Rattle.ranking.proofs.weak_order_count_with.Tie as tie
@@ -12,7 +15,7 @@ returns c = rw (lt-leb _ _ (c .if1 .taken))
 returns-2 : tie.Need-returns-2
 returns-2 c =
     let a = c .before .before .args in
-    rw (le-leb (a .n) 16 (search needs), lt-leb (a .k) 16 (c .if2 .taken))
+    rw (le-leb (a .n) 16 (search needs)) (by-test (leb (a .k) 16) (λ t. rw (t, L-none (a .n) (a .k) (c .if2 .taken))) (λ t. rw t))
 
 by-symbols-requires : tie.Need-by-symbols-requires
 by-symbols-requires c κs = search needs
