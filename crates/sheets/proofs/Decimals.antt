@@ -81,7 +81,6 @@ decimal-digits = by-tens (λ n. Digits (decimal n))
     (λ v d h l i. rw (decimal-behind v d h l) (digits-append i (one d l)))
 
 pub says-digit : (b : ℕ) → Says (isDigit b) ((48 ≤ b) × (b ≤ 57))
-unfolding isDigit
 says-digit b = says-and (says-le 48 b) (says-le b 57)
 
 -- the run of digits goes through them, and on into what follows

@@ -1,3 +1,6 @@
 pub mod Decimals
 pub mod Readers
 pub mod SheetTexts
+pub mod Cursors
+pub mod Answers
+pub mod Gathering

@@ -4,6 +4,7 @@ use mathlib.Core.List.{List, [], _∷_, _++_, append-assoc, append-nil}
 use mathlib.Core.Logic.{_⊎_, _≢_, inl, inr, ⊎-elim}
 use mathlib.Core.Path.{_≡_, refl, sym, ap, subst, _∙_}
 use Prim.Native.Nat.{ℕ, zero, suc, _+_, _-_, _*_, _≤_, _<_}
+use native.Mathlib.Decide.{decLt}
 use native.Mathlib.Numerals.{add-one}
 use native.Mathlib.Omega.{arith}
 use lib.Dec.{leb, ltb, eqb}
@@ -12,7 +13,7 @@ use lib.ListN.{length, take, drop, length-append, take-append-drop}
 use lib.Seq.{take-at, drop-at, drop-drop, length-take-le}
 use borrow.Author.Tests.{lt-ltb, le-ltb, ltb-true, ltb-false, eq-eqb, ne-eqb, eqb-true, eqb-false, le-leb, leb-true}
 use Rattle.weak_orders.specs.Says.{Says}
-use Rattle.weak_orders.proofs.Tests.{_∈_, here, there, nowhere, split-mem, by-test, says-and, says-or, says-eq, says-not, says-itself, says-no, false→not-true}
+use Rattle.weak_orders.proofs.Tests.{_∈_, here, there, nowhere, split-mem, by-test, says-and, says-lt, says-not, says-itself, says-no, false→not-true}
 use Rattle.frames.specs.Fields.{sameBytes}
 use Rattle.frames.proofs.ByteTests.{says-same-bytes}
 use Rattle.sheets.specs.Text.{decimal, signed, commaed, joined}
@@ -53,22 +54,22 @@ takes-ended {t} {s} {k} b h e =
 
 -- ---- one decimal
 
-says-written : (k : ℕ) (s : List ℕ) → Says (wellWritten k s) ((1 ≤ k) × ((k ≤ 6) × ((k ≡ 1) ⊎ (¬ (startsWith 48 s ≡ true)))))
+says-written : (k : ℕ) (s : List ℕ) → Says (wellWritten k s) ((1 ≤ k) × ((k ≤ 6) × (¬ ((1 < k) × (startsWith 48 s ≡ true)))))
 unfolding wellWritten
-says-written k s = says-and (says-le 1 k) (says-and (says-le k 6) (says-or (says-eq k 1) (says-not (says-itself (startsWith 48 s)))))
+says-written k s = says-and (says-le 1 k) (says-and (says-le k 6) (says-not (says-and (says-lt 1 k) (says-itself (startsWith 48 s)))))
 
-none-taken : (s : List ℕ) → suc (run s) ≡ 1 → take (run s) s ≡ []
-none-taken s e = let z : run s ≡ 0 = omega arith in rw z
-
-written : (s : List ℕ) → 1 ≤ run s → (run s ≡ 1) ⊎ (¬ (startsWith 48 s ≡ true)) →
-    decimal (value 0 (take (run s) s)) ≡ take (run s) s
+written : (s : List ℕ) → 1 ≤ run s → ¬ ((1 < run s) × (startsWith 48 s ≡ true)) → decimal (value 0 (take (run s) s)) ≡ take (run s) s
 unfolding startsWith run
 written [] h c = absurd (omega arith)
 written (b ∷ s) h c = by-test (isDigit b)
-    (λ t.
-    rw t (digits-decimal b (take (run s) s) (rw t at (run-digits (b ∷ s)))
-    (⊎-elim (λ e. inl (none-taken s (rw t at e))) (λ n. inr (λ e. n (eq-eqb b 48 e))) c)))
+    (λ t. rw t (digits-decimal b (take (run s) s) (rw t at (run-digits (b ∷ s))) (alone (rw t at c))))
     (λ f. absurd (let l : 1 ≤ 0 = rw f at h in omega arith))
+  where
+    alone : ¬ ((1 < suc (run s)) × (eqb b 48 ≡ true)) → (take (run s) s ≡ []) ⊎ (b ≢ 48)
+    alone n = elim (decLt 1 (suc (run s))) [
+      | yes l ↦ inr (λ e. n (l, eq-eqb b 48 e))
+      | no l ↦ inl (let z : run s ≡ 0 = omega arith in rw z)
+    ]
 
 number-sound : (s : List ℕ) (x k : ℕ) → number s ≡ found x k →
     Takes (decimal x) s k × (length (decimal x) ≤ 6)
@@ -91,9 +92,9 @@ number-complete x r h z =
     let t : wellWritten (length (decimal x)) (decimal x ++ r) ≡ true = says-written _ _ .of (decimal-some x, (h, head x r)) in
     rw (k, t, take-at (decimal x) r (length (decimal x)) refl, decimal-value x)
   where
-    head : (x : ℕ) (r : List ℕ) → (length (decimal x) ≡ 1) ⊎ (¬ (startsWith 48 (decimal x ++ r) ≡ true))
-    head zero r = inl (ap length (decimal-small 0 (omega arith)))
-    head (suc x) r = inr (false→not-true _ (decimal-head (suc x) (omega arith) r))
+    head : (x : ℕ) (r : List ℕ) → ¬ ((1 < length (decimal x)) × (startsWith 48 (decimal x ++ r) ≡ true))
+    head zero r (l, _) = omega (arith, ap length (decimal-small 0 (omega arith)))
+    head (suc x) r (_, e) = false→not-true _ (decimal-head (suc x) (omega arith) r) e
 
 -- the decimal of a number of at most six digits, where no digit follows
 pub reads-number : Reads number decimal (λ x. length (decimal x) ≤ 6) (λ r. run r ≡ 0)
@@ -197,7 +198,7 @@ abbrev pub Over : List ℕ → Type 0
 Over r = (run r ≡ 0) × (startsWith 44 r ≡ false)
 
 numbers-complete : (k : ℕ) (l r : List ℕ) → Items k l → Over r → numbers k (joined l ++ r) ≡ found l (length (joined l))
-unfolding numbers commaThen further startsWith run isDigit
+unfolding numbers commaThen further startsWith run
 numbers-complete k [] r (h, _, _) o = absurd (omega arith)
 numbers-complete zero (x ∷ l) r (_, h, _) o = absurd (omega arith)
 numbers-complete (suc k) (x ∷ []) r (_, _, all) (z, c) =

@@ -21,11 +21,11 @@ fieldsOf x = (x .n, (x .rule, (x .top, (x .spacing, x .start))))
 
 -- a space ends a number, and a line feed a list
 over : (r : List ℕ) → run (32 ∷ r) ≡ 0
-unfolding run isDigit
+unfolding run
 over r = refl
 
 list-over : (r : List ℕ) → (run (10 ∷ r) ≡ 0) × (startsWith 44 (10 ∷ r) ≡ false)
-unfolding run isDigit startsWith
+unfolding run startsWith
 list-over r = (refl, refl)
 
 abbrev Limits : RawSheet → Type 0
@@ -75,7 +75,7 @@ parse-sound s x e = by-test (leb (length s) 128)
         let q : some y ≡ some x = rw c at e in
         let x′ : x ≡ y = cc in
         let (t, w) = reads-lines .sound s y k r in
-        let all : drop k s ≡ [] = drop-of-length-le s (omega (arith, eqb-true k (length s) c)) in
+        let all : drop k s ≡ [] = drop-of-length-le s {i = k} (omega (arith, eqb-true k (length s) c)) in
         rw x′ (record { text = t .front ∙ rw all (append-nil (sheetText y)); within = w; size = l }))
         (λ c. not-some x (rw c at e))
 

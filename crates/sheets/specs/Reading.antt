@@ -1,8 +1,8 @@
 -- Readers of text (document 01, "The printed round"). A reader looks at the start of a text only, and says how many bytes it took.
-use mathlib.Core.Bool.{Bool, true, false, cond, not, _&&_, _||_}
+use mathlib.Core.Bool.{Bool, true, false, cond, not, _&&_}
 use mathlib.Core.List.{List, [], _∷_}
 use Prim.Native.Nat.{ℕ, zero, suc, _+_, _-_, _*_, _≤_}
-use lib.Dec.{leb, eqb}
+use lib.Dec.{leb, ltb, eqb}
 use lib.IntN.{ℤ, pos, negsuc}
 use lib.ListN.{length, take, drop}
 use Rattle.frames.specs.Fields.{sameBytes}
@@ -46,7 +46,7 @@ unfoldable pub ended : {A : Type 0} → Reader A → ℕ → Reader A
 ended p b s = closed b (p s) s
 
 -- how many digits the text starts with
-unfoldable pub isDigit : ℕ → Bool
+abbrev pub isDigit : ℕ → Bool
 isDigit b = leb 48 b && leb b 57
 
 unfoldable pub run : List ℕ → ℕ
@@ -63,9 +63,9 @@ unfoldable pub value : ℕ → List ℕ → ℕ
 value v [] = v
 value v (b ∷ s) = value (v * 10 + (b - 48)) s
 
--- one to six digits; a zero stands first only alone
+-- one to six digits; before others there is no zero
 unfoldable pub wellWritten : ℕ → List ℕ → Bool
-wellWritten k s = leb 1 k && (leb k 6 && (eqb k 1 || not (startsWith 48 s)))
+wellWritten k s = leb 1 k && (leb k 6 && not (ltb 1 k && startsWith 48 s))
 
 -- a decimal: all the digits that the text starts with
 unfoldable pub number : Reader ℕ

@@ -1,0 +1,26 @@
+-- What the readers answer, for what they find.
+use mathlib.Core.Bool.{true, false}
+use mathlib.Core.List.{List}
+use Prim.Native.Nat.{ℕ}
+use lib.IntN.{ℤ}
+use lib.ListN.{length, replicate}
+use Rattle.weak_orders.specs.Window.{padded}
+use Rattle.sheets.specs.Reading.{Found, found, missing}
+use Rattle.sheets.specs.declared.reader.Decimal.{Decimal}
+use Rattle.sheets.specs.declared.reader.Decimal.the-variants.{Number, NoNumber}
+use Rattle.sheets.specs.declared.reader.SignedDecimal.{SignedDecimal}
+use Rattle.sheets.specs.declared.reader.SignedDecimal.the-variants.{Number as SignedNumber, NoNumber as NoSigned}
+use Rattle.sheets.specs.declared.reader.Decimals.{Decimals}
+
+unfoldable pub decimalOf : Found ℕ → Decimal
+decimalOf (found v k) = Number v k
+decimalOf missing = NoNumber
+
+unfoldable pub signedOf : Found ℤ → SignedDecimal
+signedOf (found z k) = SignedNumber z k
+signedOf missing = NoSigned
+
+-- the decimals in an array of sixteen with zeros behind; where there are none, all zeros
+unfoldable pub decimalsOf : Found (List ℕ) → Decimals
+decimalsOf (found l k) = record { found = true; values = padded l; count = length l; len = k }
+decimalsOf missing = record { found = false; values = replicate 16 0; count = 0; len = 0 }
