@@ -144,4 +144,4 @@ module _ (d : Decimals) (s : List ℕ) (b : ℕ) (e : d ≡ decimalsOf (numbers 
   unfolding decimalsOf
   decimals-here c =
       let (l, f, v, k) = found-decimals d (numbers 16 s) e t in
-      rw (ended-here (numbers 16) b s f c, v, k, t)
+      rw (ended-here (numbers 16) b s f c, ← v, ← k, t)
