@@ -4,3 +4,5 @@ pub mod SheetTexts
 pub mod Cursors
 pub mod Answers
 pub mod Gathering
+pub mod SheetFields
+pub mod SheetLines

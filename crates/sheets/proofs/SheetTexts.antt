@@ -28,18 +28,26 @@ list-over : (r : List ℕ) → (run (10 ∷ r) ≡ 0) × (startsWith 44 (10 ∷ 
 unfolding run startsWith
 list-over r = (refl, refl)
 
-abbrev Limits : RawSheet → Type 0
+-- the fields of the second line
+pub reads-field : Reads (ended number 32) (λ v. decimal v ++ (32 ∷ [])) Short (λ r. Unit {0})
+reads-field = reads-ended 32 reads-number over
+
+pub reads-signed-field : Reads (ended signedNumber 32) (λ z. signed z ++ (32 ∷ [])) (λ z. Short (natAbs z)) (λ r. Unit {0})
+reads-signed-field = reads-ended 32 reads-signed over
+
+pub reads-list : Reads (ended (numbers 16) 10) (λ l. joined l ++ (10 ∷ [])) (Items 16) (λ r. Unit {0})
+reads-list = reads-ended 10 (reads-numbers 16) list-over
+
+abbrev pub Limits : RawSheet → Type 0
 Limits x = Short (x .n) × (Short (x .rule) × (Short (natAbs (x .top)) × (Short (x .spacing) × Items 16 (x .start))))
 
-reads-fields : Reads fields
+pub reads-fields : Reads fields
     (λ z. (decimal (z .0) ++ (32 ∷ [])) ++ ((decimal (z .1 .0) ++ (32 ∷ [])) ++ ((signed (z .1 .1 .0) ++ (32 ∷ []))
     ++ ((decimal (z .1 .1 .1 .0) ++ (32 ∷ [])) ++ (joined (z .1 .1 .1 .1) ++ (10 ∷ []))))))
     (λ z. Limits (sheetOf z))
     (λ r. Unit {0})
 unfolding fields
-reads-fields =
-    let field = reads-ended 32 reads-number over in
-    reads-both field (reads-both field (reads-both (reads-ended 32 reads-signed over) (reads-both field (reads-ended 10 (reads-numbers 16) list-over))))
+reads-fields = reads-both reads-field (reads-both reads-field (reads-both reads-signed-field (reads-both reads-field reads-list)))
 
 pub reads-lines : Reads sheetLines sheetText Within (λ r. Unit {0})
 unfolding sheetLines sheetText fieldsOf
