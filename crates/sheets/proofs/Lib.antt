@@ -6,3 +6,5 @@ pub mod Answers
 pub mod Gathering
 pub mod SheetFields
 pub mod SheetLines
+pub mod Settings
+pub mod Judging

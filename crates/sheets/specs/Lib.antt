@@ -2,3 +2,4 @@ pub mod Text
 pub mod Reading
 pub mod Sheet
 pub mod Held
+pub mod Judgement
