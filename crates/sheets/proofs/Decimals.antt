@@ -19,7 +19,7 @@ says-le m n = record { to = leb-true m n; of = le-leb m n }
 
 -- ---- the digits of a number
 
-tenth : (n : ℕ) → 10 ≤ n → (0 < n / 10) × (n / 10 < n)
+pub tenth : (n : ℕ) → 10 ≤ n → (0 < n / 10) × (n / 10 < n)
 tenth n h = omega (arith, div-add-mod' n 10, mod-lt n {m = 10} (omega arith))
 
 -- the bound on the number of digits does not matter

@@ -8,3 +8,5 @@ pub mod SheetFields
 pub mod SheetLines
 pub mod Settings
 pub mod Judging
+pub mod Written
+pub mod WrittenLists

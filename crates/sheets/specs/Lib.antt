@@ -3,3 +3,4 @@ pub mod Reading
 pub mod Sheet
 pub mod Held
 pub mod Judgement
+pub mod Writing

@@ -4,3 +4,4 @@
 pub mod judge;
 pub mod reader;
 pub mod sheet;
+mod writer;
