@@ -53,6 +53,15 @@ wrote-then {out} {t} {u} {at = at} w v h = record {
   end = v .end ∙ omega (arith, w .end, length-append t u);
 }
 
+-- room for two texts is room for the first, and then for the second
+pub room-front : (at room : ℕ) (t u : List ℕ) → at + length (t ++ u) ≤ room → at + length t ≤ room
+room-front at room t u h = omega (arith, length-append t u)
+
+pub room-rest : {out t out′ : List ℕ} {at next : ℕ} → Wrote out at t next out′ → (u : List ℕ) → at + length (t ++ u) ≤ length out →
+    next + length u ≤ length out′
+room-rest {out} {t} {at = at} w u h =
+    omega (arith, length-append t u, w .end, wrote-length w (room-front at (length out) t u h))
+
 -- ---- a decimal
 
 pub decimal-one : {out out′ : List ℕ} {at next : ℕ} (v : ℕ) → v < 10 → Wrote out at ((48 + v) ∷ []) next out′ → Wrote out at (decimal v) next out′

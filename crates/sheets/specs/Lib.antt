@@ -4,3 +4,4 @@ pub mod Sheet
 pub mod Held
 pub mod Judgement
 pub mod Writing
+pub mod Printing
