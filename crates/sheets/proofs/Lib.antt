@@ -10,3 +10,5 @@ pub mod Settings
 pub mod Judging
 pub mod Written
 pub mod WrittenLists
+pub mod Widths
+pub mod Filling

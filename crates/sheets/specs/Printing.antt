@@ -2,7 +2,7 @@
 use mathlib.Core.Bool.{Bool, cond, _&&_}
 use mathlib.Core.List.{List, [], _∷_, _++_}
 use Prim.Native.Nat.{ℕ, zero, suc, _+_, _-_}
-use lib.Dec.{ltb}
+use lib.Dec.{leb, ltb}
 use lib.IntN.{ℤ}
 use lib.ListN.{length, take, drop}
 use Rattle.weak_orders.specs.Window.{iter, isLength, padded}
@@ -55,20 +55,23 @@ unfoldable pub openingText : Verdict → List ℕ
 openingText Accepted = heading
 openingText (Refused cause) = refusedLine ++ (decimal (causeNumber cause) ++ (10 ∷ []))
 
--- a(n) lines where the sheet is accepted
-unfoldable pub lineCount : Verdict → ℕ → ℕ
-lineCount Accepted n = a n
-lineCount (Refused cause) n = 0
+-- how many steps are printed: a(n) where the sheet is accepted
+unfoldable pub stepsOf : Verdict → ℕ → ℕ
+stepsOf Accepted n = a n
+stepsOf (Refused cause) n = 0
 
 -- all that is printed for the text of a sheet
 unfoldable pub printedText : List ℕ → List ℕ
 printedText s =
     let j = judgedText s in
-    openingText (j .verdict) ++ roundLines (j .round) (lineCount (j .verdict) (j .round .n))
+    openingText (j .verdict) ++ roundLines (j .round) (stepsOf (j .verdict) (j .round .n))
 
 -- ---- in pages
 
--- before the first line
+-- before the first line. There are no windows of more than 16 symbols, and so no lines
+unfoldable pub lineCount : Verdict → ℕ → ℕ
+lineCount v n = cond (leb n 16) (stepsOf v n) 0
+
 unfoldable pub started : Judged → Printing
 started j =
     let r = j .round in
