@@ -6,8 +6,9 @@ use Prim.Native.Nat.{ℕ, zero, suc, _+_, _-_, _≤_, _<_}
 use native.Mathlib.Decide.{decLt}
 use native.Mathlib.Omega.{arith}
 use lib.Dec.{leb, ltb}
-use lib.ListN.{length, take, drop, length-append}
-use lib.Seq.{length-take-le}
+use lib.IntN.{ℤ}
+use lib.ListN.{length, getD, take, drop, length-append}
+use lib.Seq.{length-take-le, getD-take}
 use borrow.Author.Tests.{lt-ltb, le-ltb, le-leb}
 use Rattle.weak_orders.specs.Window.{isLength, padded}
 use Rattle.weak_orders.proofs.FormTests.{says-length}
@@ -15,8 +16,10 @@ use Rattle.weak_orders.proofs.Padded.{take-padded, length-padded}
 use Rattle.weak_orders.proofs.Tests.{says-and, says-itself, says-lt}
 use Rattle.successors.specs.Rules.{ruleOf, inForm, isRule, step}
 use Rattle.successors.proofs.StepForm.{step-length, step-in-form}
+use Rattle.frames.specs.Answer.{newest}
+use Rattle.frames.specs.Level.{levelOf}
 use Rattle.sheets.specs.Writing.{written, Wrote}
-use Rattle.sheets.specs.Printing.{Printed, onward, lastLine, below, pageOf, over, steppable, laidOut, nextPage}
+use Rattle.sheets.specs.Printing.{lineText, stepLine, Printed, onward, lastLine, below, pageOf, over, steppable, laidOut, nextPage}
 use Rattle.sheets.specs.declared.printing.Printing.{Printing}
 use Rattle.sheets.specs.declared.printing.Page.{Page}
 use Rattle.sheets.proofs.Decimals.{says-le}
@@ -69,6 +72,14 @@ module _ (p : Printing) (s : Steps p) (long : length (p .window) ≡ 16) where
     formed = rw onward-window (step-in-form (p .rule) w (omega (arith, n-bounds, w-length)) (s .formed));
   }
 
+pub onward-sized : (p q : Printing) → q ≡ onward p → Steps p → isLength (q .n) ≡ true
+unfolding onward
+onward-sized p q e s = rw e (s .sized)
+
+pub onward-left : (p q : Printing) → q ≡ onward p → p .done < p .last → q .last - q .done < p .last - p .done
+unfolding onward
+onward-left p q e h = rw e (omega arith)
+
 -- ---- a page
 
 below-nil : (t : Printed) → below [] t ≡ t
@@ -116,10 +127,10 @@ module _ {p : Printing} {out : List ℕ} {now : Printing} {len : ℕ} {out′ : 
       let same = wrote-length (f .wrote) (omega (arith, f .room)) in
       (omega (arith, f .wrote .end), same, omega (arith, f .wrote .end, f .room))
 
-  pub filling-on : {len′ : ℕ} {out″ : List ℕ} → now .done < now .last → 128 ≤ length out′ - len → length (lastLine (onward now)) ≤ 128 →
+  one-more : {len′ : ℕ} {out″ : List ℕ} → now .done < now .last → 128 ≤ length out′ - len → length (lastLine (onward now)) ≤ 128 →
       Wrote out′ len (lastLine (onward now)) len′ out″ → Filling p out (onward now) len′ out″
   unfolding onward
-  filling-on d h b w =
+  one-more d h b w =
       let q = onward now in
       let (l, s, _) = filled in
       let all = length-append (f .text) (lastLine q) in
@@ -135,6 +146,10 @@ module _ {p : Printing} {out : List ℕ} {now : Printing} {len : ℕ} {out′ : 
         rest = f .rest ∙ ap (below (f .text)) more ∙ below-below (f .text) (lastLine q) _ ∙ rw (left, room);
       }
 
+  pub filling-on : (q : Printing) {len′ : ℕ} {out″ : List ℕ} → q ≡ onward now → now .done < now .last → 128 ≤ length out′ - len →
+      length (lastLine q) ≤ 128 → Wrote out′ len (lastLine q) len′ out″ → Filling p out q len′ out″
+  filling-on q e d h b w = rw e (one-more d h (rw e at b) (rw e at w))
+
   pub filling-over : steppable p ≡ true → (ltb (now .done) (now .last) && leb 128 (length out′ - len)) ≡ false →
       (record { printing = now; len = len }, out′) ≡ nextPage p out
   unfolding nextPage laidOut over below written
@@ -142,9 +157,32 @@ module _ {p : Printing} {out : List ℕ} {now : Printing} {len : ℕ} {out′ : 
       let (l, s, _) = filled in
       let none = page-over (now .last - now .done) (length out - length (f .text)) now (λ a b. stop (omega arith) (omega arith)) in
       let page : pageOf (p .last - p .done) (length out) p ≡ (now, f .text) =
-          f .rest ∙ ap (below (f .text)) none ∙ ap (λ u. (now, u)) (append-nil (f .text)) in
+      f .rest ∙ ap (below (f .text)) none ∙ ap (λ u. (now, u)) (append-nil (f .text)) in
       let z : 0 + length (f .text) ≡ length (f .text) = omega arith in
       rw (t, page, l, f .wrote .text, z)
     where
       stop : now .done < now .last → 128 ≤ length out′ - len → ⊥
       stop a b = false≢true (sym e ∙ says-and (says-lt (now .done) (now .last)) (says-le 128 (length out′ - len)) .of (a, b))
+
+-- ---- a line, and the opening
+
+-- the newest symbol of a window in an array
+pub last-line : (p : Printing) → isLength (p .n) ≡ true → length (p .window) ≡ 16 → (symbol : ℕ) (level : ℤ) →
+    symbol ≡ getD (p .window) (p .n - 1) 0 → level ≡ levelOf (p .rule) (p .setting) symbol →
+    lineText (p .done) symbol level (take (p .n) (p .window)) ≡ lastLine p
+unfolding lastLine stepLine newest
+last-line p e long symbol level s l =
+    let (pos, few) = says-length (p .n) .to e in
+    let size = length-take-le (p .n) (p .window) (omega arith) in
+    let new : getD (take (p .n) (p .window)) (length (take (p .n) (p .window)) - 1) 0 ≡ symbol =
+    rw size (getD-take (p .n) (p .window) (p .n - 1) 0 (omega arith) ∙ sym s) in
+    rw (new, l)
+
+pub wrote-over : {out t out′ : List ℕ} {next : ℕ} → Wrote out 0 t next out′ → _≡_ {A = ℕ × List ℕ} (next, out′) (length t, over t out)
+unfolding over written
+wrote-over {t = t} w = let z : 0 + length t ≡ length t = omega arith in rw (w .text, w .end, z)
+
+-- a copy to the front
+pub wrote-front : (t out out′ : List ℕ) (next : ℕ) → next ≡ length t → out′ ≡ t ++ drop (length t) out → Wrote out 0 t next out′
+unfolding written
+wrote-front t out out′ next n e = let z : 0 + length t ≡ length t = omega arith in record { text = e ∙ rw z; end = n ∙ sym z }

@@ -1,8 +1,7 @@
 -- `put_row`: the fields one behind the other. Assumes nothing.
 use mathlib.Core.List.{List, [], _∷_, _++_}
-use mathlib.Core.Path.{_≡_, ap, subst, _∙_}
+use mathlib.Core.Path.{subst}
 use Prim.Native.Nat.{ℕ, _+_, _≤_}
-use lib.IntN.{ℤ}
 use lib.ListN.{length, take}
 use mir.Facts.{toZ-ofZ}
 use Rattle.sheets.specs.Printing.{lineText}
@@ -12,11 +11,6 @@ use Rattle.sheets.proofs.Written.{wrote-then, room-front, room-rest}
 use borrow.Author.Needs.{needs}
 use Rattle.sheets.proofs.printing.put_row.Statement.{statement}
 use Rattle.sheets.proofs.printing.put_row.Tie as tie
-use Rattle.sheets.proofs.printing.put_row.Reads as reads
-use Rattle.sheets.proofs.printing.put_row.Lts as lts
-use Rattle.sheets.proofs.writer.put_decimal_field.Reads as put-decimal-field-reads
-use Rattle.sheets.proofs.writer.put_joined_field.Reads as put-joined-field-reads
-use Rattle.sheets.proofs.writer.put_signed_field.Reads as put-signed-field-reads
 
 -- the fields
 abbrev field₁ : tie.Start → List ℕ
