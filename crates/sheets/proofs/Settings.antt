@@ -1,0 +1,68 @@
+-- Test 9 on values that are not yet narrowed. Assumes nothing.
+use mathlib.Core.Bool.{Bool, true, false, cond, _&&_, false≢true}
+use mathlib.Core.Path.{_≡_, refl, sym, ap, _∙_}
+use Prim.Native.Nat.{ℕ, _≤_, _<_}
+use native.Mathlib.Omega.{arith}
+use lib.Dec.{leb}
+use lib.IntN.{ℤ, pos, negsuc}
+use lib.Signed.{leZ, mag}
+use mir.Syntax.{w16}
+use mir.Val.{SFits}
+use borrow.Author.Tests.{leb-true}
+use Rattle.weak_orders.proofs.Tests.{by-test, says-and, says-itself}
+use Rattle.frames.specs.Level.{settingOk}
+use Rattle.sheets.specs.declared.judge.SettingTest.{SettingTest}
+use Rattle.sheets.specs.Judgement.{settingOf, settingTest, noSetting}
+
+-- the first test that fails decides
+false-left : (a b : Bool) → a ≡ false → (a && b) ≡ false
+false-left a b e = rw e
+
+false-right : (a b : Bool) → b ≡ false → (a && b) ≡ false
+false-right true b e = e
+false-right false b e = refl
+
+-- the tests on top and on spacing
+abbrev pub topOk : ℤ → Bool
+topOk top = leZ (negsuc 9999) top && leZ top (pos 2000)
+
+abbrev pub spacingOk : ℕ → Bool
+spacingOk spacing = leb 1 spacing && leb spacing 500
+
+-- a top that passes has room in 16 bits
+pub top-fits : (top : ℤ) → topOk top ≡ true → SFits w16 top
+top-fits (pos k) e = record { sfits = omega (arith, leb-true k 2000 e) }
+top-fits (negsuc k) e =
+    let (l, _) = says-and (says-itself (leb k 9999)) (says-itself true) .to e in record { sfits = omega (arith, leb-true k 9999 l) }
+
+pub spacing-below : (spacing : ℕ) → spacingOk spacing ≡ true → spacing ≤ 500
+spacing-below spacing e = let (_, h) = says-and (says-itself (leb 1 spacing)) (says-itself (leb spacing 500)) .to e in leb-true spacing 500 h
+
+module _ (n : ℕ) (top : ℤ) (spacing : ℕ) where
+  pub not-ok : settingOk n (settingOf top spacing) ≡ false → settingTest n top spacing ≡ noSetting
+  unfolding settingTest
+  not-ok e = rw e
+
+  pub passes : settingOk n (settingOf top spacing) ≡ true → settingTest n top spacing ≡ record { ok = true; setting = settingOf top spacing }
+  unfolding settingTest
+  passes e = rw e
+
+  pub top-out : topOk top ≡ false → settingTest n top spacing ≡ noSetting
+  unfolding settingOk
+  top-out e = not-ok (false-left (topOk top) _ e)
+
+  pub spacing-out : spacingOk spacing ≡ false → settingTest n top spacing ≡ noSetting
+  unfolding settingOk
+  spacing-out e = not-ok (false-right (topOk top) _ (false-left (spacingOk spacing) _ e))
+
+  -- what the answer tells
+  module _ (t : SettingTest) (e : t ≡ settingTest n top spacing) where
+    pub test-failed : t .ok ≡ false → settingOk n (settingOf top spacing) ≡ false
+    test-failed f = by-test (settingOk n (settingOf top spacing))
+        (λ q. absurd (false≢true (sym f ∙ ap (λ (t : SettingTest). t .ok) (e ∙ passes q))))
+        (λ q. q)
+
+    pub test-passed : t .ok ≡ true → (settingOk n (settingOf top spacing) ≡ true) × (t .setting ≡ settingOf top spacing)
+    test-passed f = by-test (settingOk n (settingOf top spacing))
+        (λ q. (q, ap (λ (t : SettingTest). t .setting) (e ∙ passes q)))
+        (λ q. absurd (false≢true (sym (ap (λ (t : SettingTest). t .ok) (e ∙ not-ok q)) ∙ f)))

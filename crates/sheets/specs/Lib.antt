@@ -1,0 +1,7 @@
+pub mod Text
+pub mod Reading
+pub mod Sheet
+pub mod Held
+pub mod Judgement
+pub mod Writing
+pub mod Printing

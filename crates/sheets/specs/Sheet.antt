@@ -1,0 +1,76 @@
+-- A sheet as it is written and read (document 01, "The printed round"). Values are kept as they were read.
+use mathlib.Core.Bool.{cond}
+use mathlib.Core.List.{List, [], _∷_, _++_, List·Memᴰ}
+use mathlib.Core.Option.{Option, none, some}
+use mathlib.Core.Path.{_≡_}
+use Prim.Native.Nat.{ℕ, _≤_}
+use lib.Dec.{leb, eqb}
+use lib.IntN.{ℤ, natAbs}
+use lib.ListN.{length}
+use Rattle.sheets.specs.Text.{decimal, signed, joined}
+use Rattle.sheets.specs.Reading.{Found, found, missing, Reader, both, behind, ended, number, signedNumber, numbers}
+
+pub record RawSheet : Type 0 where
+  pub n : ℕ
+  pub rule : ℕ
+  pub top : ℤ
+  pub spacing : ℕ
+  pub start : List ℕ
+
+-- the first line: n rule top spacing start
+abbrev pub titleLine : List ℕ
+titleLine =
+    110 ∷ 32 ∷ 114 ∷ 117 ∷ 108 ∷ 101 ∷ 32 ∷ 116 ∷ 111 ∷ 112 ∷ 32 ∷ 115 ∷ 112 ∷ 97 ∷ 99 ∷ 105 ∷ 110 ∷ 103
+    ∷ 32 ∷ 115 ∷ 116 ∷ 97 ∷ 114 ∷ 116 ∷ 10 ∷ []
+
+-- ---- written
+
+-- the two lines: single spaces between the fields, a line feed at the end
+unfoldable pub sheetText : RawSheet → List ℕ
+sheetText x =
+    titleLine ++ ((decimal (x .n) ++ (32 ∷ [])) ++ ((decimal (x .rule) ++ (32 ∷ [])) ++ ((signed (x .top) ++ (32 ∷ []))
+    ++ ((decimal (x .spacing) ++ (32 ∷ [])) ++ (joined (x .start) ++ (10 ∷ []))))))
+
+-- a decimal has at most 6 digits
+abbrev pub Short : ℕ → Type 0
+Short v = length (decimal v) ≤ 6
+
+-- what the lines allow
+pub record Within (x : RawSheet) : Type 0 where
+  pub n : Short (x .n)
+  pub rule : Short (x .rule)
+  pub top : Short (natAbs (x .top))
+  pub spacing : Short (x .spacing)
+  pub some-start : 1 ≤ length (x .start)
+  pub few-start : length (x .start) ≤ 16
+  pub start : (v : ℕ) → List·Memᴰ v (x .start) → Short v
+
+-- s is the text of the sheet x, and not too long
+pub record IsText (x : RawSheet) (s : List ℕ) : Type 0 where
+  pub text : s ≡ sheetText x
+  pub within : Within x
+  pub size : length s ≤ 128
+
+-- ---- read
+
+abbrev pub Fields : Type 0
+Fields = ℕ × (ℕ × (ℤ × (ℕ × List ℕ)))
+
+unfoldable pub fields : Reader Fields
+fields = both (ended number 32) (both (ended number 32) (both (ended signedNumber 32) (both (ended number 32) (ended (numbers 16) 10))))
+
+abbrev pub sheetOf : Fields → RawSheet
+sheetOf (n, (rule, (top, (spacing, start)))) = record { n = n; rule = rule; top = top; spacing = spacing; start = start }
+
+-- the two lines at the start of a text
+unfoldable pub sheetLines : Reader RawSheet
+sheetLines = behind titleLine sheetOf fields
+
+-- what takes the whole of a text
+unfoldable pub wholly : ℕ → Found RawSheet → Option RawSheet
+wholly size (found x k) = cond (eqb k size) (some x) none
+wholly size missing = none
+
+-- the sheet of a text of at most 128 bytes, or none where the text is malformed
+unfoldable pub parse : List ℕ → Option RawSheet
+parse s = cond (leb (length s) 128) (wholly (length s) (sheetLines s)) none
