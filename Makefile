@@ -9,6 +9,15 @@ TESTS = target/host/test_calls target/host/test_session
 test:
 	@.ci/run
 
+# The printed round of a sheet: the sample of document 01, or make run SHEET=file.
+SHEET = crates/round/stdin
+run: target/bin/round
+	@target/bin/round <$(SHEET)
+
+target/bin/round: crates.txt $(shell find crates -name '*.rt' -o -name '*.antt')
+	@mkdir -p target
+	@rt check round >target/round.log 2>&1 || { tail -n 20 target/round.log; exit 1; }
+
 lib: $(LIB)
 	@echo "library: $(LIB)"
 	@echo "header:  include/wko.h"
@@ -34,8 +43,13 @@ target/host/%: host/%.c $(wildcard host/*.h) host/reference.c host/session_model
 	@$(CC) $(CFLAGS) -o $@ $< host/reference.c host/session_model.c $(LIB)
 
 # Speed against plain C in the same run; a report, not a test.
-bench: target/host/bench
+bench: target/host/bench target/host/print_round target/bin/round
 	@target/host/bench
+	@bench/round.sh
+
+target/host/print_round: bench/print_round.c bench/baseline.c bench/baseline.h
+	@mkdir -p target/host
+	@$(CC) -std=c11 -O3 -o $@ bench/print_round.c bench/baseline.c
 
 target/staticlib/libwalk.a: $(LIB)
 	@rt staticlib walk >target/staticlib.log 2>&1 || { tail -n 20 target/staticlib.log; exit 1; }
