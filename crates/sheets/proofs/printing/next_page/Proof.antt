@@ -10,7 +10,7 @@ use mir.Syntax.{w8, w16}
 use mir.Val.{Fits, SFits}
 use borrow.Author.Tests.{not-true, not-false}
 use Rattle.weak_orders.proofs.Tests.{says-and, says-lt}
-use Rattle.sheets.specs.Printing.{onward, over, laidOut, nextPage, steppable}
+use Rattle.sheets.specs.Printing.{onward, over, pageIn, laidOut, nextPage, steppable}
 use Rattle.sheets.proofs.Decimals.{says-le}
 use Rattle.sheets.proofs.Filling.{steps-of, of-steps, onward-sized, onward-left, Filling, filled, filling-none, filling-on, filling-over}
 use Rattle.sheets.proofs.Widths.{Held, last-line-width}
@@ -46,7 +46,7 @@ can-step-requires : tie.Need-can-step-requires Inv-loop μ-loop
 can-step-requires c κs = search needs
 
 returns : tie.Need-returns Inv-loop μ-loop
-unfolding nextPage laidOut over
+unfolding nextPage pageIn laidOut over
 returns c = rw (sym (c .before .can-step .ensures) ∙ not-true (c .before .can-step .result) (c .if1 .taken))
 
 loop-holds : tie.Need-loop-holds Inv-loop μ-loop
