@@ -13,3 +13,4 @@ pub mod WrittenLists
 pub mod Widths
 pub mod Filling
 pub mod Printouts
+pub mod Samples

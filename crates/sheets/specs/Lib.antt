@@ -6,3 +6,4 @@ pub mod Judgement
 pub mod Writing
 pub mod Printing
 pub mod Claims
+pub mod Sample
