@@ -19,7 +19,7 @@ use Rattle.successors.proofs.StepForm.{step-length, step-in-form}
 use Rattle.frames.specs.Answer.{newest}
 use Rattle.frames.specs.Level.{levelOf}
 use Rattle.sheets.specs.Writing.{written, Wrote}
-use Rattle.sheets.specs.Printing.{lineText, stepLine, Printed, onward, lastLine, below, pageOf, over, steppable, laidOut, nextPage}
+use Rattle.sheets.specs.Printing.{lineText, stepLine, Printed, onward, lastLine, below, pageOf, over, steppable, pageIn, laidOut, nextPage}
 use Rattle.sheets.specs.declared.printing.Printing.{Printing}
 use Rattle.sheets.specs.declared.printing.Page.{Page}
 use Rattle.sheets.proofs.Decimals.{says-le}
@@ -152,7 +152,7 @@ module _ {p : Printing} {out : List ℕ} {now : Printing} {len : ℕ} {out′ : 
 
   pub filling-over : steppable p ≡ true → (ltb (now .done) (now .last) && leb 128 (length out′ - len)) ≡ false →
       (record { printing = now; len = len }, out′) ≡ nextPage p out
-  unfolding nextPage laidOut over below written
+  unfolding nextPage pageIn laidOut over below written
   filling-over t e =
       let (l, s, _) = filled in
       let none = page-over (now .last - now .done) (length out - length (f .text)) now (λ a b. stop (omega arith) (omega arith)) in

@@ -7,7 +7,7 @@ use native.Mathlib.Omega.{arith}
 use lib.ListN.{length, take, drop, set, length-append, length-drop, take-append-drop}
 use lib.Seq.{length-take-le, set-split, take-at, drop-drop, drop-append-add}
 use Rattle.sheets.specs.Text.{decimal}
-use Rattle.sheets.specs.Writing.{written, Wrote}
+use Rattle.sheets.specs.Writing.{written, Wrote, Counts}
 use Rattle.sheets.proofs.Decimals.{decimal-small, decimal-more}
 
 written-length : (out : List ℕ) (at : ℕ) (t : List ℕ) → at + length t ≤ length out → length (written out at t) ≡ length out
@@ -74,3 +74,8 @@ pub decimal-then : {out out′ out″ : List ℕ} {at next last : ℕ} (v : ℕ)
     Wrote out at (decimal (v / 10)) next out′ → Wrote out′ next ((48 + v % 10) ∷ []) last out″ →
     at + length (decimal v) ≤ length out → Wrote out at (decimal v) last out″
 decimal-then v h w u room = rw (decimal-more v h) (wrote-then w u (omega (arith, decimal-longer v h)))
+
+-- ---- a count of bytes
+
+pub counts : (out : List ℕ) (n : ℕ) → n ≤ length out → Counts n out
+counts out n h = (h, sym (length-take-le n out h))

@@ -5,3 +5,5 @@ pub mod Held
 pub mod Judgement
 pub mod Writing
 pub mod Printing
+pub mod Claims
+pub mod Sample

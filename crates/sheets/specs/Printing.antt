@@ -115,11 +115,14 @@ over text buffer = text ++ drop (length text) buffer
 unfoldable pub steppable : Printing → Bool
 steppable p = isRule (p .rule) && (isLength (p .n) && inForm (p .rule) (take (p .n) (p .window)))
 
+unfoldable pub pageIn : ℕ → Printing → Printed
+pageIn room p = cond (steppable p) (pageOf (p .last - p .done) room p) (p, [])
+
 unfoldable pub laidOut : Printed → List ℕ → Page × List ℕ
 laidOut (p, text) buffer = (record { printing = p; len = length text }, over text buffer)
 
 unfoldable pub nextPage : Printing → List ℕ → Page × List ℕ
-nextPage p buffer = laidOut (cond (steppable p) (pageOf (p .last - p .done) (length buffer) p) (p, [])) buffer
+nextPage p buffer = laidOut (pageIn (length buffer) p) buffer
 
 -- the opening in a buffer of 128 bytes or more
 unfoldable pub opening : Verdict → List ℕ → ℕ × List ℕ

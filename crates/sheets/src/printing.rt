@@ -5,7 +5,7 @@ ghost use Prim.Native.Nat.{_+_, _≤_, _<_};
 ghost use lib.ListN.{length, take};
 ghost use Rattle.weak_orders.specs.Window.{isLength};
 ghost use Rattle.successors.specs.Rules.{inForm, isRule};
-ghost use Rattle.sheets.specs.Writing.{Wrote};
+ghost use Rattle.sheets.specs.Writing.{Wrote, Counts};
 ghost use Rattle.sheets.specs.Printing.{lineText, openingText, lineCount, opening, started, steppable, onward, lastLine, nextPage};
 use crate::judge::Judged;
 use crate::judge::Verdict;
@@ -84,6 +84,7 @@ pub fn started(judged: Judged) -> Printing
 // The heading of a round, or the refusal. A slice of under 128 bytes stays as it is.
 pub fn put_opening(verdict: Verdict, out: &mut [u8]) -> usize
     ensures { λ r. ⌜ (r, now (out .exit)) ≡ opening verdict (now (out .entry)) ⌝ }
+    ensures within { λ r. ⌜ Counts r (now (out .exit)) ⌝ }
 {
     if out.len() < LONGEST {
         return 0;
@@ -135,6 +136,7 @@ fn put_line(out: &mut [u8], at: usize, p: Printing) -> usize
 // The lines that follow, as many as there are while 128 bytes are left.
 pub fn next_page(p: Printing, out: &mut [u8]) -> Page
     ensures { λ r. ⌜ (r, now (out .exit)) ≡ nextPage p (now (out .entry)) ⌝ }
+    ensures within { λ r. ⌜ Counts (r .len) (now (out .exit)) ⌝ }
 {
     if !can_step(p) {
         return Page {

@@ -1,6 +1,5 @@
 -- `next_page`: the lines filled so far, and those of the page that are still to come, are the page. Assumes nothing.
 use borrow.Author.Needs.{needs}
-use borrow.Author.Needs.{needs}
 use native.Mathlib.Omega.{arith}
 use mathlib.Core.Bool.{true}
 use mathlib.Core.Path.{_≡_, sym, _∙_}
@@ -10,8 +9,9 @@ use mir.Syntax.{w8, w16}
 use mir.Val.{Fits, SFits}
 use borrow.Author.Tests.{not-true, not-false}
 use Rattle.weak_orders.proofs.Tests.{says-and, says-lt}
-use Rattle.sheets.specs.Printing.{onward, over, laidOut, nextPage, steppable}
+use Rattle.sheets.specs.Printing.{onward, over, pageIn, laidOut, nextPage, steppable}
 use Rattle.sheets.proofs.Decimals.{says-le}
+use Rattle.sheets.proofs.Written.{counts}
 use Rattle.sheets.proofs.Filling.{steps-of, of-steps, onward-sized, onward-left, Filling, filled, filling-none, filling-on, filling-over}
 use Rattle.sheets.proofs.Widths.{Held, last-line-width}
 use Rattle.sheets.proofs.printing.next_page.Statement.{statement}
@@ -46,8 +46,9 @@ can-step-requires : tie.Need-can-step-requires Inv-loop μ-loop
 can-step-requires c κs = search needs
 
 returns : tie.Need-returns Inv-loop μ-loop
-unfolding nextPage laidOut over
-returns c = rw (sym (c .before .can-step .ensures) ∙ not-true (c .before .can-step .result) (c .if1 .taken))
+unfolding nextPage pageIn laidOut over
+returns c =
+    let no = sym (c .before .can-step .ensures) ∙ not-true (c .before .can-step .result) (c .if1 .taken) in (rw no, (search needs, search needs))
 
 loop-holds : tie.Need-loop-holds Inv-loop μ-loop
 loop-holds c =
@@ -90,7 +91,7 @@ same-length c = filled (c .before .before .loop .inv) .1
 returns-2 : tie.Need-returns-2 Inv-loop μ-loop
 returns-2 c =
     let l = c .before .before .loop in
-    filling-over (l .inv) (stepped (c .before .before .before)) (c .if2 .left)
+    (filling-over (l .inv) (stepped (c .before .before .before)) (c .if2 .left), counts (l .out) (l .len) (omega (arith, filled (l .inv))))
 
 pub next-page-spec : {M : Type 1} → statement M
 next-page-spec =

@@ -9,7 +9,7 @@ use lib.ListN.{length, length-append}
 use Rattle.sheets.specs.Text.{decimal}
 use Rattle.sheets.specs.Writing.{Wrote}
 use Rattle.sheets.proofs.Widths.{decimal-width}
-use Rattle.sheets.proofs.Written.{wrote-then, room-front, room-rest}
+use Rattle.sheets.proofs.Written.{counts, wrote-length, wrote-then, room-front, room-rest}
 use borrow.Author.Needs.{needs}
 use Rattle.sheets.proofs.printing.put_opening.Statement.{statement}
 use Rattle.sheets.proofs.printing.put_opening.Tie as tie
@@ -37,7 +37,7 @@ room c =
 
 returns : tie.Need-returns
 unfolding opening
-returns c = rw (lt-ltb _ 128 (c .if1 .taken))
+returns c = (rw (lt-ltb _ 128 (c .if1 .taken)), (search needs, search needs))
 
 enum-told : tie.Need-enum-told
 enum-told c = search needs
@@ -77,8 +77,9 @@ returns-2 c =
     let k = c .before .before in
     let m = k .before .before .before .before in
     let s = m .before .before .before in
-    rw (k .before .before .before .enum-told .given .1, le-ltb _ 128 (m .before .if1 .left))
-    (wrote-over (wrote-front heading (s .args .out .now) (k .copy .last .1 .0) (k .copy .result) (k .copy .ensures .0) (k .copy .ensures .1)))
+    let w = wrote-front heading (s .args .out .now) (k .copy .last .1 .0) (k .copy .result) (k .copy .ensures .0) (k .copy .ensures .1) in
+    let long = m .before .if1 .left in
+    (rw (k .before .before .before .enum-told .given .1, le-ltb _ 128 long) (wrote-over w), counts _ (k .copy .result) (omega (arith, w .end, wrote-length w (omega arith))))
 
 same-length-2 : tie.Need-same-length-2
 same-length-2 c = search needs
@@ -92,7 +93,8 @@ returns-3 c =
     let e = n .before .before in
     let v = n .number .result in
     let both = wrote-then (refused k) (d .put-decimal-field .ensures) (room-front 0 _ refusedLine (decimal v ++ (10 ∷ [])) (room k)) in
-    rw (e .verdict .given .1, le-ltb _ 128 (e .before .before .if1 .left), ← n .number .ensures) (wrote-over both)
+    let short = le-ltb _ 128 (e .before .before .if1 .left) in
+    (rw (e .verdict .given .1, short, ← n .number .ensures) (wrote-over both), counts _ (d .put-decimal-field .result) (omega (arith, both .end, room k, wrote-length both (room k))))
 
 pub put-opening-spec : {M : Type 1} → statement M
 put-opening-spec =

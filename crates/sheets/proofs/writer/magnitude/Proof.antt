@@ -7,7 +7,6 @@ use mir.Syntax.{w32, w64}
 use mir.Val.{SFits, Fits}
 use borrow.Author.Needs.{needs}
 use Rattle.sheets.proofs.WrittenLists.{mirrored, above}
-use borrow.Author.Needs.{needs}
 use Rattle.sheets.proofs.writer.magnitude.Statement.{statement}
 use Rattle.sheets.proofs.writer.magnitude.Tie as tie
 
