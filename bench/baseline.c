@@ -134,6 +134,11 @@ static uint64_t power(uint64_t x, uint64_t k)
     return p;
 }
 
+static uint64_t one_missing(uint64_t rest, uint64_t present)
+{
+    return power(present + 1, rest) - power(present, rest);
+}
+
 /* The ways to fill rest places so that each of the missing heights occurs, any of the present ones being allowed. */
 static uint64_t ways(uint64_t rest, uint64_t missing, uint64_t present)
 {
@@ -143,7 +148,9 @@ static uint64_t ways(uint64_t rest, uint64_t missing, uint64_t present)
     if (missing == 0)
         return power(present, rest);
     if (missing == 1)
-        return power(present + 1, rest) - power(present, rest);
+        return one_missing(rest, present);
+    if (missing == 2)
+        return one_missing(rest, present + 1) - one_missing(rest, present);
     while (missing <= rest) {
         rest--;
         total += fillings * missing * ways(rest, missing - 1, present + 1);

@@ -7,11 +7,23 @@
 
 uint32_t walk(size_t n, uint8_t rule, const uint8_t *window, size_t window_len, uint64_t count);
 
+enum { RUNS = 5, MOST_PLACES = 5000 };
+
+/* The processor time of this process: other work on the machine is left out. */
 static double now(void)
 {
     struct timespec t;
-    clock_gettime(CLOCK_MONOTONIC, &t);
+    clock_gettime(CLOCK_PROCESS_CPUTIME_ID, &t);
     return (double)t.tv_sec + 1e-9 * (double)t.tv_nsec;
+}
+
+/* Adds a run to the best time so far, and gives the time at its end. */
+static double keep_best(double *best, double since)
+{
+    double end = now();
+    if (end - since < *best)
+        *best = end - since;
+    return end;
 }
 
 static void start_window(int rule, int n, uint8_t *w)
@@ -21,67 +33,76 @@ static void start_window(int rule, int n, uint8_t *w)
         w[i] = (uint8_t)(rule == 1 ? i + 1 : i);
 }
 
+/* The window one step on, by the C call. */
+static void call_step(int rule, int n, uint8_t *w)
+{
+    uint32_t symbol = wko_next_symbol((uint64_t)n, (uint64_t)rule, w, (size_t)n);
+    memmove(w, w + 1, (size_t)(n - 1));
+    w[n - 1] = (uint8_t)symbol;
+}
+
 /* Steps along the cycle, the best of five runs of each, one after the other in turn. */
 static void steps(int rule, int n, uint64_t count)
 {
-    double c = 1e9, r = 1e9, call = 1e9;
+    double c = 1e9, ours = 1e9, call = 1e9;
     uint8_t w[16], v[16];
-    unsigned sum = 0;
-    for (int run = 0; run < 5; run++) {
-        double t0 = now(), t1, t2, t3;
+    unsigned differ = 0;
+    for (int run = 0; run < RUNS; run++) {
+        double t = now();
         start_window(rule, n, w);
         baseline_walk(rule, w, n, count);
-        t1 = now();
+        t = keep_best(&c, t);
         start_window(rule, n, v);
-        sum += walk((size_t)n, (uint8_t)rule, v, (size_t)n, count) != w[n - 1];
-        t2 = now();
-        for (uint64_t k = 0; k < count; k++) {
-            uint32_t s = wko_next_symbol((uint64_t)n, (uint64_t)rule, v, (size_t)n);
-            memmove(v, v + 1, (size_t)(n - 1));
-            v[n - 1] = (uint8_t)s;
-        }
-        t3 = now();
-        sum += memcmp(v, w, (size_t)n) != 0;
-        c = t1 - t0 < c ? t1 - t0 : c;
-        r = t2 - t1 < r ? t2 - t1 : r;
-        call = t3 - t2 < call ? t3 - t2 : call;
+        differ += walk((size_t)n, (uint8_t)rule, v, (size_t)n, count) != w[n - 1];
+        t = keep_best(&ours, t);
+        for (uint64_t k = 0; k < count; k++)
+            call_step(rule, n, v);
+        keep_best(&call, t);
+        differ += memcmp(v, w, (size_t)n) != 0;
     }
     printf("rule %d  n = %2d   C %6.1f ns   step %6.1f ns (%.2f of C)   wko_next_symbol %6.1f ns (%.2f of C)%s\n", rule, n,
-           1e9 * c / (double)count, 1e9 * r / (double)count, r / c, 1e9 * call / (double)count, call / c,
-           sum ? "   THE ANSWERS DIFFER" : "");
+           1e9 * c / (double)count, 1e9 * ours / (double)count, ours / c, 1e9 * call / (double)count, call / c,
+           differ ? "   THE ANSWERS DIFFER" : "");
+}
+
+/* Sends the step frames 1 to count; gives how many were refused. */
+static unsigned send_steps(struct wko_session *s, uint64_t count)
+{
+    uint8_t step[40] = "WKO1S", answer[40];
+    unsigned refused = 0;
+    for (uint64_t k = 1; k <= count; k++) {
+        struct wko_exchanged x;
+        for (int i = 0; i < 8; i++)
+            step[8 + i] = (uint8_t)(k >> (8 * i));
+        x = wko_exchange(*s, step, 40, answer, 40);
+        refused += x.number != 0;
+        *s = x.session;
+    }
+    return refused;
 }
 
 /* Step frames through the session, beside the bare next symbol. */
 static void frames(int n, uint64_t count)
 {
-    uint8_t begin[40] = "WKO1B", step[40] = "WKO1S", answer[40], w[16];
-    struct wko_session s = wko_fresh();
-    double t0, t1, t2;
+    uint8_t begin[40] = "WKO1B", answer[40], w[16];
+    double by_frame = 1e9, by_call = 1e9;
     unsigned wrong = 0;
     begin[5] = (uint8_t)n;
     begin[6] = 1;
     begin[18] = 100;
-    start_window(1, n, w);
-    memcpy(begin + 24, w, 16);
-    s = wko_exchange(s, begin, 40, answer, 40).session;
-    t0 = now();
-    for (uint64_t k = 1; k <= count; k++) {
-        struct wko_exchanged x;
-        for (int i = 0; i < 8; i++)
-            step[8 + i] = (uint8_t)(k >> (8 * i));
-        x = wko_exchange(s, step, 40, answer, 40);
-        wrong += x.number != 0;
-        s = x.session;
+    start_window(1, n, begin + 24);
+    for (int run = 0; run < RUNS; run++) {
+        struct wko_session s = wko_exchange(wko_fresh(), begin, 40, answer, 40).session;
+        double t = now();
+        wrong += send_steps(&s, count);
+        t = keep_best(&by_frame, t);
+        start_window(1, n, w);
+        for (uint64_t k = 1; k <= count; k++)
+            call_step(1, n, w);
+        keep_best(&by_call, t);
+        wrong += memcmp(w, s.window, (size_t)n) != 0;
     }
-    t1 = now();
-    for (uint64_t k = 1; k <= count; k++) {
-        uint32_t symbol = wko_next_symbol((uint64_t)n, 1, w, (size_t)n);
-        memmove(w, w + 1, (size_t)(n - 1));
-        w[n - 1] = (uint8_t)symbol;
-    }
-    t2 = now();
-    wrong += memcmp(w, s.window, (size_t)n) != 0;
-    printf("n = %2d   %9.0f step frames a second, %.2f of the time of wko_next_symbol%s\n", n, (double)count / (t1 - t0), (t1 - t0) / (t2 - t1),
+    printf("n = %2d   %9.0f step frames a second, %.2f of the time of wko_next_symbol%s\n", n, (double)count / by_frame, by_frame / by_call,
            wrong ? "   WRONG" : "");
 }
 
@@ -98,31 +119,36 @@ static uint64_t random64(void)
 static void places(int n, int count)
 {
     static const uint64_t a[17] = {[8] = 545835, [12] = 28091567595, [16] = 5315654681981355};
-    double place_c = 0, place_r = 0, window_c = 0, window_r = 0;
+    static uint64_t at[MOST_PLACES];
+    static uint8_t w[MOST_PLACES][16], v[MOST_PLACES][16], bytes[MOST_PLACES][8];
+    double place_c = 1e9, place_ours = 1e9, window_c = 1e9, window_ours = 1e9;
     unsigned differ = 0;
-    for (int k = 0; k < count; k++) {
-        uint64_t at = random64() % a[n], found = 0;
-        uint8_t w[16] = {0}, v[16] = {0}, bytes[8];
-        double t0 = now(), t1, t2, t3, t4;
-        baseline_window_at(n, at, w);
-        t1 = now();
-        wko_window_at((uint64_t)n, at, v, 16);
-        t2 = now();
-        differ += baseline_place(w, n) != at;
-        t3 = now();
-        wko_place((uint64_t)n, v, (size_t)n, bytes, 8);
-        t4 = now();
-        for (int i = 0; i < 8; i++)
-            found |= (uint64_t)bytes[i] << (8 * i);
-        differ += found != at || memcmp(v, w, 16) != 0;
-        window_c += t1 - t0;
-        window_r += t2 - t1;
-        place_c += t3 - t2;
-        place_r += t4 - t3;
+    memset(w, 0, sizeof w);
+    memset(v, 0, sizeof v);
+    for (int k = 0; k < count; k++)
+        at[k] = random64() % a[n];
+    for (int run = 0; run < RUNS; run++) {
+        double t = now();
+        for (int k = 0; k < count; k++)
+            baseline_window_at(n, at[k], w[k]);
+        t = keep_best(&window_c, t);
+        for (int k = 0; k < count; k++)
+            wko_window_at((uint64_t)n, at[k], v[k], 16);
+        t = keep_best(&window_ours, t);
+        for (int k = 0; k < count; k++)
+            differ += baseline_place(w[k], n) != at[k];
+        t = keep_best(&place_c, t);
+        for (int k = 0; k < count; k++)
+            wko_place((uint64_t)n, v[k], (size_t)n, bytes[k], 8);
+        keep_best(&place_ours, t);
+        for (int k = 0; k < count; k++)
+            for (int i = 0; i < 8; i++)
+                differ += bytes[k][i] != (uint8_t)(at[k] >> (8 * i));
+        differ += memcmp(v, w, sizeof w) != 0;
     }
-    printf("n = %2d   place: C %8.1f us, wko_place %8.1f us (%.2f of C)   window: C %8.1f us, wko_window_at %8.1f us (%.2f of C)%s\n", n,
-           1e6 * place_c / count, 1e6 * place_r / count, place_r / place_c, 1e6 * window_c / count, 1e6 * window_r / count,
-           window_r / window_c, differ ? "   THE ANSWERS DIFFER" : "");
+    printf("n = %2d   place: C %8.2f us, wko_place %8.2f us (%.2f of C)   window: C %8.2f us, wko_window_at %8.2f us (%.2f of C)%s\n", n,
+           1e6 * place_c / count, 1e6 * place_ours / count, place_ours / place_c, 1e6 * window_c / count, 1e6 * window_ours / count,
+           window_ours / window_c, differ ? "   THE ANSWERS DIFFER" : "");
 }
 
 int main(void)

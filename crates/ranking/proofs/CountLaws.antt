@@ -1,5 +1,4 @@
 -- Laws of the numbers: `ways`, `waysFrom`, L(n, k) and a(n). Assumes nothing.
-use mathlib.Core.Bool.{cond, _&&_}
 use mathlib.Core.Logic.{_≢_}
 use mathlib.Core.Path.{_≡_, refl, sym, ap, ap₂, _∙_}
 use Prim.Native.Nat.{ℕ, zero, suc, pred, _+_, _-_, _*_, _≤_, _<_, zero-le, suc-le-suc}
@@ -7,8 +6,6 @@ use native.Mathlib.Nat.{add-zero, mul-add, mul-assoc, mul-zero, mul-le-mul-right
 use native.Mathlib.Decide.{decLe, le-ind}
 use native.Mathlib.Numerals.{add-one}
 use native.Mathlib.Omega.{arith}
-use lib.Dec.{leb}
-use borrow.Author.Tests.{le-leb, lt-leb}
 use Rattle.ranking.specs.Counts.{L, sum, a, ways, waysFrom}
 use Rattle.ranking.proofs.Sums.{sum-zero, sum-suc, sum-cong, sum-append}
 
@@ -39,8 +36,8 @@ ways-split zero (suc m) p = refl
 ways-split (suc r) zero p = omega (arith, ap (p *_) (ways-split r zero p))
 ways-split (suc r) (suc m) p = omega (arith, ap (p *_) (ways-split r (suc m) p), ap (suc m *_) (ways-split r m (suc p)))
 
-pub ways-one-missing : (r p : ℕ) → ways r 0 (p + 1) ≡ ways r 1 p + ways r 0 p
-ways-one-missing r p = ap (ways r 0) (add-one p) ∙ ways-split r 0 p
+pub ways-one-more : (r m p : ℕ) → ways r m (p + 1) ≡ ways r (m + 1) p + ways r m p
+ways-one-more r m p = rw (add-one p, add-one m) (ways-split r m p)
 
 pub L-ways : (n k : ℕ) → L n k ≡ ways n k 0
 unfolding L ways
@@ -64,13 +61,6 @@ unfolding ways
 ways-none r zero p h = absurd (omega arith)
 ways-none zero (suc m) p h = refl
 ways-none (suc r) (suc m) p h = rw (ways-none r m (suc p) (omega arith), ways-none r (suc m) p (omega arith), mul-zero, mul-zero)
-
--- as the table has it, where r is in it
-pub table-or-none : (r m : ℕ) → r ≤ 16 → cond (leb r 16 && leb m 16) (L r m) 0 ≡ ways r m 0
-table-or-none r m h = elim (decLe m 16) [
-  | yes l ↦ rw (le-leb r 16 h, le-leb m 16 l) (L-ways r m)
-  | no l ↦ rw (le-leb r 16 h, lt-leb m 16 (omega arith)) (sym (ways-none r m 0 (omega arith)))
-]
 
 -- ---- m missing heights or more
 

@@ -35,7 +35,7 @@ missing top present v = max top (v + 1) - present
 abbrev pub counted : List ℕ → ℕ → ℕ → List ℕ → ℕ → ℕ
 counted seen top present totals v =
     let m = missing top present v in
-    cond (ltb 0 (getD seen v 0)) (getD totals m 0) (getD totals (m - 1) 0 + getD totals m 0)
+    cond (ltb 0 (getD seen v 0)) (getD totals m 0) (getD totals m 0 + getD totals (m - 1) 0)
 
 module _ {n : ℕ} {p seen : List ℕ} {top present : ℕ} {totals : List ℕ} (K : Known n p seen top present totals) where
   pub symbols≤top : present ≤ top
@@ -45,7 +45,7 @@ module _ {n : ℕ} {p seen : List ℕ} {top present : ℕ} {totals : List ℕ} (
   places-and-symbols = omega (arith, K .symbols, K .few, K .short, different≤length p)
 
   pub ways-fit : (m : ℕ) → m < 17 → getD totals m 0 < 2 ^ 63
-  ways-fit m l = omega (arith, K .ways m l, waysFrom-small (n - suc (length p)) m present places-and-symbols)
+  ways-fit m l = omega (arith, K .ways m l, waysFrom-small (n - suc (length p)) m present (omega (arith, places-and-symbols)))
 
   seen-occurs : (v : ℕ) → v < n → ltb 0 (getD seen v 0) ≡ occurs p v
   unfolding occurs

@@ -66,7 +66,7 @@ module _ (w : List ℕ) (n : ℕ) (long : length w ≡ 16) (h : isHeightWindow n
     arith,
     place-upto (take n w) (omega (arith, low, size)) i (omega (arith, size)),
     heights-numbered n .place-below (take n w) (size, of-height-window w n h .2),
-    a≤most n few,
+    a≤most n (omega (arith, few)),
   )
 
   pub placed-all : sum (placeAt (take n w)) n ≡ place (take n w)

@@ -62,16 +62,16 @@ waysFrom≤a r (suc m) p = omega (arith, waysFrom-next r m p, waysFrom≤a r m p
 pub ways≤a : (r m p : ℕ) → ways r m p ≤ a (p + r)
 ways≤a r m p = omega (arith, waysFrom-next r m p, waysFrom≤a r m p)
 
--- a(16), which fits 64 bits; so do all of the numbers above, up to 16
+-- a(17), which fits 64 bits; so do all of the numbers above, up to 17
 abbrev pub most : ℕ
-most = 5315654681981355
+most = 130370767029135901
 
-pub a≤most : (n : ℕ) → n ≤ 16 → a n ≤ most
+pub a≤most : (n : ℕ) → n ≤ 17 → a n ≤ most
 unfolding a
-a≤most n h = let e : a 16 ≡ most = refl in omega (arith, a-mono n 16 h)
+a≤most n h = let e : a 17 ≡ most = refl in omega (arith, a-mono n 17 h)
 
-pub waysFrom-small : (r m p : ℕ) → r + p ≤ 16 → waysFrom r m p ≤ most
+pub waysFrom-small : (r m p : ℕ) → r + p ≤ 17 → waysFrom r m p ≤ most
 waysFrom-small r m p h = omega (arith, waysFrom≤a r m p, a≤most (p + r) (omega arith))
 
-pub ways-small : (r m p : ℕ) → r + p ≤ 16 → ways r m p ≤ most
+pub ways-small : (r m p : ℕ) → r + p ≤ 17 → ways r m p ≤ most
 ways-small r m p h = omega (arith, ways≤a r m p, a≤most (p + r) (omega arith))

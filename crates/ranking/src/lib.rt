@@ -1,9 +1,9 @@
 // The numbers a(n) and L(n, k) of weak orders, and the places of height windows in dictionary order (document 01, "Windows" and
 // "Place"). Rests on weak_orders. Completions of a prefix are counted, never listed. Knows no rule and no session; a rank window has
 // the place of its heights, and is converted by the caller.
-ghost use mathlib.Core.Bool.{cond, true, false, _&&_};
+ghost use mathlib.Core.Bool.{cond, true, _&&_};
 ghost use mathlib.Core.Path.{_≡_};
-ghost use Prim.Native.Nat.{ℕ, max, _+_, _-_, _^_, _≤_, _<_};
+ghost use Prim.Native.Nat.{max, _+_, _-_, _^_, _≤_, _<_};
 ghost use lib.Dec.{leb};
 ghost use lib.ListN.{getD, take};
 ghost use Rattle.weak_orders.specs.Converted.{isHeightWindow};
@@ -26,23 +26,38 @@ pub fn weak_order_count(n: usize) -> u64
     counts[n]
 }
 
-// L(n, k), the weak orders of n with exactly k different symbols; 0 outside the table. No table is asked for more symbols than places.
+// L(n, 0) to L(n, 16), a row of the table.
+fn row(n: usize) -> [u64; 17]
+    requires { ⌜ n ≤ 16 ⌝ }
+    ensures { λ r. ⌜ Entries r (L n) 17 ⌝ }
+{
+    let counts = tables::by_symbols();
+    let mut entries = [0u64; 17];
+    let mut k: usize = 0;
+    while k < 17 {
+        entries[k] = counts[n * 17 + k];
+        k += 1;
+    }
+    entries
+}
+
+// L(n, k), the weak orders of n with exactly k different symbols; 0 outside the table.
 pub fn weak_order_count_with(n: usize, k: usize) -> u64
     ensures { λ r. ⌜ r ≡ cond (leb n 16 && leb k 16) (L n k) 0 ⌝ }
 {
     if 16 < n {
         return 0;
     }
-    if n < k {
+    if 16 < k {
         return 0;
     }
-    let counts = tables::by_symbols();
-    counts[n * 17 + k]
+    let entries = row(n);
+    entries[k]
 }
 
 // The ways to fill rest places with the present heights, none being missing.
 fn none_missing(rest: u64, present: u64) -> u64
-    requires { ⌜ rest + present ≤ 16 ⌝ }
+    requires { ⌜ rest + present ≤ 17 ⌝ }
     ensures { λ r. ⌜ r ≡ ways rest 0 present ⌝ }
 {
     let mut total = 1;
@@ -54,22 +69,29 @@ fn none_missing(rest: u64, present: u64) -> u64
     total
 }
 
-// The ways to fill rest places where each of the missing heights has to stand in one, and any of the present may. With none present
-// they are in the table. With one missing they are the fillings by one height more, without those that do not use it. With more, some
-// places take present heights, in so many fillings, the next takes a missing one, which is then present, and fewer places are left.
-// Where more heights are missing than places are left there is no way, and none is tried.
+// The ways where one height is missing: the fillings by one height more, without those that do not use it.
+fn one_missing(rest: u64, present: u64) -> u64
+    requires { ⌜ rest + present ≤ 16 ⌝ }
+    ensures { λ r. ⌜ r ≡ ways rest 1 present ⌝ }
+{
+    none_missing(rest, present + 1) - none_missing(rest, present)
+}
+
+// The ways to fill rest places where each of the missing heights has to stand in one, and any of the present may. With two missing they
+// are a difference, as with one. With more, some places take present heights, in so many fillings, the next takes a missing one, which is
+// then present, and fewer places are left. Where more heights are missing than places are left there is no way, and none is tried.
 fn ways(rest: u64, missing: u64, present: u64) -> u64
     requires { ⌜ rest + present < 16 ⌝ }
     ensures { λ r. ⌜ r ≡ ways rest missing present ⌝ }
 {
-    if present == 0 {
-        return weak_order_count_with(rest as usize, missing as usize);
-    }
     if missing == 0 {
         return none_missing(rest, present);
     }
     if missing == 1 {
-        return none_missing(rest, present + 1) - none_missing(rest, present);
+        return one_missing(rest, present);
+    }
+    if missing == 2 {
+        return one_missing(rest, present + 1) - one_missing(rest, present);
     }
     let mut total = 0;
     let mut fillings = 1;
@@ -82,17 +104,36 @@ fn ways(rest: u64, missing: u64, present: u64) -> u64
     total
 }
 
+// For each m up to 16: the ways to fill rest places with m missing heights. With none present they are a row of the table. No m above
+// rest finds room.
+fn ways_with(rest: u64, present: u64) -> [u64; 17]
+    requires { ⌜ rest + present < 16 ⌝ }
+    ensures { λ r. ⌜ Entries r (λ m. ways rest m present) 17 ⌝ }
+{
+    if present == 0 {
+        return row(rest as usize);
+    }
+    let mut counts = [0u64; 17];
+    let mut m = 0;
+    while m <= rest {
+        counts[m as usize] = ways(rest, m, present);
+        m += 1;
+    }
+    counts
+}
+
 // For each m up to 16: the ways to fill rest places with m or more missing heights.
 fn ways_from(rest: u64, present: u64) -> [u64; 17]
     requires { ⌜ rest + present < 16 ⌝ }
     ensures { λ r. ⌜ Entries r (λ m. waysFrom rest m present) 17 ⌝ }
 {
+    let counts = ways_with(rest, present);
     let mut totals = [0u64; 17];
     let mut total = 0;
     let mut m: usize = 17;
     while 0 < m {
         m -= 1;
-        total += ways(rest, m as u64, present);
+        total += counts[m];
         totals[m] = total;
     }
     totals
@@ -119,19 +160,8 @@ fn bound(w: [u8; 16], i: usize) -> usize
     b
 }
 
-// The completions of a prefix with one symbol more. totals holds the ways with m or more missing heights, and missing is how many
-// the prefix then misses, the symbol itself among them where the prefix does not hold it.
-fn with_symbol(totals: [u64; 17], missing: usize, held: bool) -> u64
-    requires { ⌜ (missing < 17) × (held ≡ false → 0 < missing) × ((m : ℕ) → m < 17 → getD totals m 0 < 2 ^ 63) ⌝ }
-    ensures { λ r. ⌜ r ≡ cond held (getD totals missing 0) (getD totals (missing - 1) 0 + getD totals missing 0) ⌝ }
-{
-    if held {
-        return totals[missing];
-    }
-    totals[missing - 1] + totals[missing]
-}
-
-// For each symbol v below n: the completions of the first i symbols of w with v behind them.
+// For each symbol v below n: the completions of the first i symbols of w with v behind them. Where v is not among them it is one of the
+// heights missing up to the larger of v and their largest, and no longer missing behind them.
 fn continuations(w: [u8; 16], n: usize, i: usize) -> [u64; 16]
     requires { ⌜ (i < n) × (n ≤ 16) × (bound (take i w) ≤ n) ⌝ }
     ensures { λ r. ⌜ Entries r (completionsWith n (take i w)) n ⌝ }
@@ -144,7 +174,11 @@ fn continuations(w: [u8; 16], n: usize, i: usize) -> [u64; 16]
     let mut v: usize = 0;
     while v < n {
         let missing = larger(top, v + 1) - present;
-        counts[v] = with_symbol(totals, missing, 0 < seen[v]);
+        let mut count = totals[missing];
+        if seen[v] == 0 {
+            count += totals[missing - 1];
+        }
+        counts[v] = count;
         v += 1;
     }
     counts

@@ -8,13 +8,13 @@ use borrow.Author.Needs.{needs}
 use borrow.Fn.Kinds.{In}
 use borrow.Fn.PlainCycle.{Measures, is, falls, and}
 use Rattle.ranking.specs.Counts.{ways as waysTo}
-use Rattle.ranking.proofs.CountLaws.{ways-after, ways-none, ways-none-missing, ways-one-missing, table-or-none}
+use Rattle.ranking.proofs.CountLaws.{ways-after, ways-none, ways-none-missing, ways-one-more}
 use Rattle.ranking.proofs.Size.{most, ways-small}
 use Rattle.ranking.proofs.ways.Reads as ways
 use Rattle.ranking.proofs.ways.Kinds as ways-kinds
 use Rattle.ranking.proofs.+ways.Lts-ways as lts
 use Rattle.ranking.proofs.none_missing.Reads as none-missing
-use Rattle.ranking.proofs.weak_order_count_with.Reads as table
+use Rattle.ranking.proofs.one_missing.Reads as one-missing
 use Rattle.ranking.proofs.+ways.{statement}
 use Rattle.ranking.proofs.+ways.Tie.{close}
 
@@ -37,21 +37,21 @@ module _ (t : ℕ) where
 
   abbrev claims : lts.Claims
   claims = (
-    table.Asked,
-    table.Learnt,
     none-missing.Asked,
     none-missing.Learnt,
+    one-missing.Asked,
+    one-missing.Learnt,
     and 0 ways-kinds.ps (falls 0 ways-kinds.ps _<_ μ t) ways.Pre,
     ways.Post,
   )
 
-  -- what is left of the fillings by one height more
-  one : (c : lts.After-none-missing3 claims at ways.Post Inv-loop μ-loop) →
+  -- what is left of the ways with one missing and one height more
+  two : (c : lts.After-one-missing3 claims at ways.Post Inv-loop μ-loop) →
       let a = c .before .before .before .before .before .args in
-      c .before .none-missing2 .result ≡ waysTo (a .rest) 1 (a .present) + c .none-missing3 .result
-  one c =
+      c .before .one-missing2 .result ≡ waysTo (a .rest) 2 (a .present) + c .one-missing3 .result
+  two c =
       let a = c .before .before .before .before .before .args in
-      omega (arith, c .before .none-missing2 .ensures, c .none-missing3 .ensures, ways-one-missing (a .rest) (a .present))
+      omega (arith, c .before .one-missing2 .ensures, c .one-missing3 .ensures, ways-one-more (a .rest) 1 (a .present))
 
   -- one place more is passed
   next : (c : lts.After-ways claims at ways.Post Inv-loop μ-loop) →
@@ -82,40 +82,38 @@ module _ (t : ℕ) where
   all-fit : (s : lts.Start claims at ways.Post Inv-loop μ-loop) → waysTo (s .args .rest) (s .args .missing) (s .args .present) ≤ most
   all-fit s = ways-small (s .args .rest) (s .args .missing) (s .args .present) (omega (arith, s .pre .1))
 
-  weak-order-count-with-requires : lts.Need-weak-order-count-with-requires claims at ways.Post Inv-loop μ-loop
-  weak-order-count-with-requires c κs = search needs
+  none-missing-requires : lts.Need-none-missing-requires claims at ways.Post Inv-loop μ-loop
+  none-missing-requires c κs = search needs
 
   returns : lts.Need-returns claims at ways.Post Inv-loop μ-loop
   returns c =
       let a = c .before .before .args in
-      let h = c .before .before .pre .1 in
-      let e = c .weak-order-count-with .ensures ∙ table-or-none (a .rest) (a .missing) (omega arith) in
-      e ∙ ap (waysTo (a .rest) (a .missing)) (sym (c .before .if1 .taken))
+      c .none-missing .ensures ∙ ap (λ m. waysTo (a .rest) m (a .present)) (sym (c .before .if1 .taken))
 
-  none-missing-requires : lts.Need-none-missing-requires claims at ways.Post Inv-loop μ-loop
-  none-missing-requires c κs = search needs
+  one-missing-requires : lts.Need-one-missing-requires claims at ways.Post Inv-loop μ-loop
+  one-missing-requires c κs = search needs
 
   returns-2 : lts.Need-returns-2 claims at ways.Post Inv-loop μ-loop
   returns-2 c =
       let a = c .before .before .before .args in
-      c .none-missing .ensures ∙ ap (λ m. waysTo (a .rest) m (a .present)) (sym (c .before .if2 .taken))
+      c .one-missing .ensures ∙ ap (λ m. waysTo (a .rest) m (a .present)) (sym (c .before .if2 .taken))
 
-  add-none-missing : lts.Need-add-none-missing claims at ways.Post Inv-loop μ-loop
-  add-none-missing c = search needs
+  add-one-missing : lts.Need-add-one-missing claims at ways.Post Inv-loop μ-loop
+  add-one-missing c = search needs
 
-  none-missing-requires-2 : lts.Need-none-missing-requires-2 claims at ways.Post Inv-loop μ-loop
-  none-missing-requires-2 c κs = search needs
+  one-missing-requires-2 : lts.Need-one-missing-requires-2 claims at ways.Post Inv-loop μ-loop
+  one-missing-requires-2 c κs = search needs
 
-  none-missing-requires-3 : lts.Need-none-missing-requires-3 claims at ways.Post Inv-loop μ-loop
-  none-missing-requires-3 c κs = search needs
+  one-missing-requires-3 : lts.Need-one-missing-requires-3 claims at ways.Post Inv-loop μ-loop
+  one-missing-requires-3 c κs = search needs
 
   sub-result : lts.Need-sub-result claims at ways.Post Inv-loop μ-loop
-  sub-result c = omega (arith, one c)
+  sub-result c = omega (arith, two c)
 
   returns-3 : lts.Need-returns-3 claims at ways.Post Inv-loop μ-loop
   returns-3 c =
       let a = c .before .before .before .before .before .args in
-      omega (arith, one c, ap (λ m. waysTo (a .rest) m (a .present)) (c .before .before .if3 .taken))
+      omega (arith, two c, ap (λ m. waysTo (a .rest) m (a .present)) (c .before .before .if3 .taken))
 
   loop-holds : lts.Need-loop-holds claims at ways.Post Inv-loop μ-loop
   unfolding waysTo
@@ -173,13 +171,13 @@ module _ (t : ℕ) where
 
 pub +ways-spec : {M : Type 1} → statement M
 +ways-spec = close μ λ t. lts.spec (claims t) (at t) ways.Post Inv-loop μ-loop
-    (weak-order-count-with-requires t)
-    (returns t)
     (none-missing-requires t)
+    (returns t)
+    (one-missing-requires t)
     (returns-2 t)
-    (add-none-missing t)
-    (none-missing-requires-2 t)
-    (none-missing-requires-3 t)
+    (add-one-missing t)
+    (one-missing-requires-2 t)
+    (one-missing-requires-3 t)
     (sub-result t)
     (returns-3 t)
     (loop-holds t)

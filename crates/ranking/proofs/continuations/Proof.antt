@@ -1,9 +1,11 @@
 -- `ranking::continuations` meets its contract. The loop's invariant: the first v counts are right, in terms of what was found out about
 -- the prefix (`Known`). Assumes nothing.
-use mathlib.Core.Path.{_≡_, refl, ap, _∙_}
+use mathlib.Core.Logic.{⊎-elim}
+use mathlib.Core.Path.{_≡_, refl, sym, ap, _∙_}
 use Prim.Native.Nat.{_-_, _≤_}
 use native.Mathlib.Omega.{arith}
-use lib.ListN.{length, take, length-take}
+use lib.Dec.{ltb}
+use lib.ListN.{length, getD, take, length-take}
 use Rattle.weak_orders.specs.Window.{different}
 use Rattle.weak_orders.proofs.Symbols.{different-below, different≤length}
 use Rattle.ranking.specs.Counts.{waysFrom}
@@ -11,6 +13,7 @@ use Rattle.ranking.specs.Tables.{Entries}
 use Rattle.ranking.proofs.Following.{Known, counted, symbols≤top, ways-fit, missing<17, missing-itself, counted-completions}
 use Rattle.ranking.proofs.Tabled.{entries-more}
 use borrow.Author.Needs.{needs}
+use borrow.Author.Tests.{lt-ltb}
 use Rattle.ranking.proofs.continuations.Statement.{statement}
 use Rattle.ranking.proofs.continuations.Tie as tie
 
@@ -82,14 +85,32 @@ larger-requires c κs = search needs
 sub-missing : tie.Need-sub-missing Inv-loop μ-loop
 sub-missing c = omega (arith, symbols≤top (known (c .before .before .before)), c .larger .ensures)
 
-array-read-with-symbol : tie.Need-array-read-with-symbol Inv-loop μ-loop
-array-read-with-symbol c = search needs
+mul-count : tie.Need-mul-count Inv-loop μ-loop
+mul-count c = search needs
 
-with-symbol-requires : tie.Need-with-symbol-requires Inv-loop μ-loop
-with-symbol-requires c κs =
+array-read-count : tie.Need-array-read-count Inv-loop μ-loop
+array-read-count c =
     let K = known (c .before .before .before) in
-    let v = c .before .before .loop .v in
-    rw (c .larger .ensures) (missing<17 K v (search needs), missing-itself K v (search needs), ways-fit K)
+    rw (c .larger .ensures) (missing<17 K (c .before .before .loop .v) (search needs))
+
+array-read-if1 : tie.Need-array-read-if1 Inv-loop μ-loop
+array-read-if1 c = search needs
+
+sub-count : tie.Need-sub-count Inv-loop μ-loop
+sub-count c =
+    let K = known (c .before .before .before .before) in
+    rw (c .before .larger .ensures) (missing-itself K (c .before .before .before .loop .v) (search needs) (ap (ltb 0) (c .if1 .taken)))
+
+mul-count-2 : tie.Need-mul-count-2 Inv-loop μ-loop
+mul-count-2 c = search needs
+
+array-read-count-2 : tie.Need-array-read-count-2 Inv-loop μ-loop
+array-read-count-2 c = omega (arith, array-read-count (c .before))
+
+add-count : tie.Need-add-count Inv-loop μ-loop
+add-count c =
+    let fit = ways-fit (known (c .before .before .before .before)) in
+    record { fits = omega (arith, fit _ (array-read-count (c .before)), fit _ (array-read-count-2 c)) }
 
 mul-counts : tie.Need-mul-counts Inv-loop μ-loop
 mul-counts c = search needs
@@ -103,15 +124,28 @@ add-v c = search needs
 loop-less : tie.Need-loop-less Inv-loop μ-loop
 loop-less c = search needs
 
+-- the count of the symbol v, held by the prefix or not
+count : (c : tie.Joined1 Inv-loop μ-loop) →
+    let s = c .before .before .before .before in
+    c .if1 .count
+    ≡ counted (s .before .before .counts .result) (s .before .bound .result) (s .before .before .before .different .result)
+    (s .ways-from .result) (c .before .before .before .loop .v)
+count c =
+    let seen = getD (c .before .before .before .before .before .before .counts .result) (c .before .before .before .loop .v) 0 in
+    let e = sym (c .before .larger .ensures) in
+    ⊎-elim
+    (λ j. rw (ap (ltb 0) (j .0 .taken), e) (j .1))
+    (λ j. rw (lt-ltb 0 seen (omega (arith, j .0 .left)), e) (j .1))
+    (c .if1 .came)
+
 loop-again : tie.Need-loop-again Inv-loop μ-loop
 loop-again c =
     let s = c .before .before .before .before in
     let f = counted (s .before .before .counts .result) (s .before .bound .result) (s .before .before .before .different .result)
     (s .ways-from .result) in
-    let v = c .before .before .before .loop .v in
-    let e : c .with-symbol .result ≡ f v = rw (c .before .larger .ensures) at (c .with-symbol .ensures) in
-    let was = c .before .before .before .loop .inv .2 in
-    (search needs, search needs, entries-more (c .before .before .before .loop .counts) f v (c .with-symbol .result) (omega arith) e was)
+    let l = c .before .before .before .loop in
+    let more = entries-more (l .counts) f (l .v) (c .if1 .count) (omega arith) (count c) (l .inv .2) in
+    (search needs, search needs, more)
 
 returns : tie.Need-returns Inv-loop μ-loop
 returns c = λ v h. c .before .loop .inv .2 v (omega arith) ∙ counted-completions (known (c .before .before)) v h
@@ -133,8 +167,13 @@ continuations-spec =
     add-larger
     larger-requires
     sub-missing
-    array-read-with-symbol
-    with-symbol-requires
+    mul-count
+    array-read-count
+    array-read-if1
+    sub-count
+    mul-count-2
+    array-read-count-2
+    add-count
     mul-counts
     array-write-counts
     add-v

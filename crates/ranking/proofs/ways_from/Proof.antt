@@ -13,38 +13,46 @@ use Rattle.ranking.proofs.ways_from.Statement.{statement}
 use Rattle.ranking.proofs.ways_from.Tie as tie
 
 abbrev Inv-loop : tie.InvT-loop
-Inv-loop rest present totals₀ total₀ m₀ totals total m =
+Inv-loop rest present counts totals₀ total₀ m₀ totals total m =
     (m ≤ 17)
     × (total ≡ waysFrom rest m present)
     × (length totals ≡ 17)
     × ((i : ℕ) → m ≤ i → i < 17 → getD totals i 0 ≡ waysFrom rest i present)
 
 abbrev μ-loop : tie.MeasureT-loop
-μ-loop rest present totals₀ total₀ m₀ totals total m = m
+μ-loop rest present counts totals₀ total₀ m₀ totals total m = m
+
+ways-with-requires : tie.Need-ways-with-requires Inv-loop μ-loop
+ways-with-requires c κs = search needs
 
 loop-holds : tie.Need-loop-holds Inv-loop μ-loop
 loop-holds c =
-    (search needs, sym (waysFrom-none (c .args .rest) 17 (c .args .present) (omega arith)), refl, λ i l h. absurd (omega arith))
+    let a = c .before .args in
+    (search needs, sym (waysFrom-none (a .rest) 17 (a .present) (omega arith)), refl, λ i l h. absurd (omega arith))
 
 sub-m : tie.Need-sub-m Inv-loop μ-loop
 sub-m c = search needs
 
-ways-requires : tie.Need-ways-requires Inv-loop μ-loop
-ways-requires c κs = search needs
+mul-total : tie.Need-mul-total Inv-loop μ-loop
+mul-total c = search needs
+
+array-read-total : tie.Need-array-read-total Inv-loop μ-loop
+array-read-total c = search needs
 
 -- one term more
-next : (c : tie.After-ways Inv-loop μ-loop) →
+next : (c : tie.In-loop Inv-loop μ-loop) →
     let a = c .before .before .before .args in
-    c .before .before .loop .total + c .ways .result ≡ waysFrom (a .rest) (c .before .before .loop .m - 1) (a .present)
+    let l = c .before .loop in
+    l .total + getD (c .before .before .ways-with .result) (l .m - 1) 0 ≡ waysFrom (a .rest) (l .m - 1) (a .present)
 next c =
     let a = c .before .before .before .args in
-    let m = c .before .before .loop .m in
-    let e : suc (m - 1) ≡ m = omega arith in
+    let l = c .before .loop in
+    let e : suc (l .m - 1) ≡ l .m = omega arith in
     omega (
       arith,
-      c .ways .ensures,
-      c .before .before .loop .inv .1,
-      waysFrom-next (a .rest) (m - 1) (a .present),
+      c .before .before .ways-with .ensures (l .m - 1) (omega arith),
+      l .inv .1,
+      waysFrom-next (a .rest) (l .m - 1) (a .present),
       ap (λ m. waysFrom (a .rest) m (a .present)) e,
     )
 
@@ -52,7 +60,7 @@ add-total : tie.Need-add-total Inv-loop μ-loop
 add-total c =
     let a = c .before .before .before .args in
     let h = c .before .before .before .pre in
-    let small = waysFrom-small (a .rest) (c .before .before .loop .m - 1) (a .present) (omega arith) in
+    let small = waysFrom-small (a .rest) (c .before .loop .m - 1) (a .present) (omega arith) in
     record { fits = omega (arith, next c, small) }
 
 mul-totals : tie.Need-mul-totals Inv-loop μ-loop
@@ -67,13 +75,13 @@ loop-less c = search needs
 loop-again : tie.Need-loop-again Inv-loop μ-loop
 loop-again c =
     let a = c .before .before .before .args in
-    let t = c .before .before .loop .totals in
-    let m = c .before .before .loop .m in (
+    let l = c .before .loop in
+    (
       search needs,
       next c,
       search needs,
-      λ i lo hi. entries-set t (λ i. waysFrom (a .rest) i (a .present)) (m - 1) _ (omega arith) (next c) i
-          (λ ne. c .before .before .loop .inv .3 i (omega arith) hi),
+      λ i lo hi. entries-set (l .totals) (λ i. waysFrom (a .rest) i (a .present)) (l .m - 1) _ (omega arith) (next c) i
+          (λ ne. l .inv .3 i (omega arith) hi),
     )
 
 returns : tie.Need-returns Inv-loop μ-loop
@@ -85,9 +93,11 @@ ways-from-spec =
     (tie.spec
     Inv-loop
     μ-loop
+    ways-with-requires
     loop-holds
     sub-m
-    ways-requires
+    mul-total
+    array-read-total
     add-total
     mul-totals
     array-write-totals
