@@ -4,7 +4,7 @@ CFLAGS = -std=c11 -O2 -Wall -Wextra -D_DEFAULT_SOURCE
 LIB = target/staticlib/libwko.a
 TESTS = target/host/test_calls target/host/test_session
 
-.PHONY: test run lib host host-test bench clean
+.PHONY: test run rings lib host host-test bench clean
 
 test:
 	@.ci/run
@@ -26,6 +26,10 @@ $(LIB): crates.txt $(shell find crates -name '*.rt' -o -name '*.antt')
 	@mkdir -p target
 	@rt staticlib wko >target/staticlib.log 2>&1 || { tail -n 20 target/staticlib.log; exit 1; }
 
+# The README's picture of a round, from what the program prints: one row for each ring of rotations.
+rings: target/bin/round
+	@target/bin/round <docs/picture/sheet | awk -f docs/picture/rings.awk
+
 # The example bench host of the README.
 host: target/host/example
 	@echo "bench host: target/host/example"
@@ -34,8 +38,9 @@ target/host/example: host/example.c include/wko.h $(LIB)
 	@mkdir -p target/host
 	@$(CC) $(CFLAGS) -Iinclude -o $@ host/example.c $(LIB)
 
-host-test: $(TESTS) target/host/example
+host-test: $(TESTS) target/host/example target/bin/round
 	@target/host/example | cmp - host/example.out
+	@host/readme.sh
 	@for t in $(TESTS); do $$t || exit 1; done
 
 target/host/%: host/%.c $(wildcard host/*.h) host/reference.c host/session_model.c include/wko.h $(LIB)

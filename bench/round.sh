@@ -5,7 +5,7 @@ cd "$(dirname "$0")/.."
 sheet=$(mktemp)
 trap 'rm -f "$sheet"' EXIT
 printf 'n rule top spacing start\n8 1 -1000 100 1,1,1,1,1,1,1,1\n' >"$sheet"
-best() { # best PROGRAM: the least time of a run in microseconds
+time_of() { # time_of PROGRAM: the time of a run in microseconds
   local t0 t1
   t0=$(date +%s%N)
   "$1" <"$sheet" >/dev/null
@@ -16,9 +16,9 @@ best() { # best PROGRAM: the least time of a run in microseconds
 ours=999999999
 theirs=999999999
 for _ in 1 2 3 4 5 6 7; do
-  t=$(best target/host/print_round)
+  t=$(time_of target/host/print_round)
   [ "$t" -lt "$theirs" ] && theirs=$t
-  t=$(best target/bin/round)
+  t=$(time_of target/bin/round)
   [ "$t" -lt "$ours" ] && ours=$t
 done
 printf '\nThe printed round of n = 8, 545,835 lines: C %d ms, round %d ms (%d.%02d of C)\n' \
