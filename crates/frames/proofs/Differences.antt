@@ -5,10 +5,9 @@ use Prim.Native.Nat.{ℕ, zero, suc, _+_, _-_, _≤_, _<_}
 use native.Mathlib.Nat.{add-zero}
 use native.Mathlib.Omega.{arith}
 use native.Mathlib.Decide.{decLt}
-use lib.Dec.{leb}
 use lib.IntN.{ℤ, pos, negsuc, subℕ, _-ℤ_, +ℤ-idr}
 use lib.Signed.{leZ, ltZ}
-use borrow.Author.Tests.{lt-ltb, le-ltb, leb-true, le-leb}
+use borrow.Author.Tests.{lt-ltb, le-ltb}
 use Rattle.weak_orders.proofs.Tests.{says-le}
 use Rattle.weak_orders.specs.Says.{Says}
 use Rattle.weak_orders.proofs.Tests.{says-as, same-test, says-lt, says-not}

@@ -13,7 +13,8 @@ use borrow.Author.Tests.{eqb-true, eq-eqb, ne-eqb}
 use Rattle.weak_orders.specs.Window.{all, count, range, occurs, different, height, isHeight, bound}
 use Rattle.weak_orders.proofs.HeightForm.{height-form, form-height}
 use Rattle.weak_orders.proofs.Lists.{count-nil, count-cons, count-cong, count-map, count-none, in-range, of-range}
-use Rattle.weak_orders.proofs.Symbols.{bound-append, bound-back, different-below, different≤bound, different≤length, different-old, different-new}
+use Rattle.weak_orders.proofs.Symbols.{bound-append, bound-back, different-below, different≤bound, different≤length, different-old}
+use Rattle.weak_orders.proofs.Symbols.{different-new}
 use Rattle.weak_orders.proofs.Tests.{_∈_, by-test, bit}
 use Rattle.ranking.specs.Counts.{L, sum, a, ways, waysFrom}
 use Rattle.ranking.specs.Dictionary.{strings, heightWindows}

@@ -15,7 +15,8 @@ use Rattle.weak_orders.proofs.Symbols.{bound-back, different≤bound, different
 use Rattle.weak_orders.proofs.Tests.{by-test, bit}
 use Rattle.ranking.specs.Counts.{sum, a, waysFrom}
 use Rattle.ranking.specs.Dictionary.{strings, heightWindows, begins, completions}
-use Rattle.ranking.proofs.Completions.{of-strings, count-strings, fillings, endings, endings-suc, endings-zero, endings-ways, endings-all}
+use Rattle.ranking.proofs.Completions.{of-strings, count-strings, fillings, endings, endings-suc, endings-zero, endings-ways}
+use Rattle.ranking.proofs.Completions.{endings-all}
 use Rattle.ranking.proofs.CountLaws.{waysFrom-none, waysFrom-split}
 use Rattle.ranking.proofs.Listing.{of-select, count-select}
 use Rattle.ranking.proofs.Sums.{sum-cong, sum-single}

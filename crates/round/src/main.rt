@@ -2,10 +2,9 @@
 // What is printed is the library's, page by page.
 use libc::STDIN_FILENO;
 use libc::STDOUT_FILENO;
+use printing::Printing;
 use sheets::judge;
 use sheets::judge::Verdict;
-use sheets::printing;
-use sheets::printing::Printing;
 
 fn print_opening(verdict: Verdict) {
     let mut page = io::buffer();

@@ -1,16 +1,16 @@
 -- The tests on a sheet in their order, and the start window before and after its items are narrowed. Assumes nothing.
-use mathlib.Core.Bool.{Bool, true, false, cond, not, _&&_, false≢true}
+use mathlib.Core.Bool.{true, false, _&&_, false≢true}
 use mathlib.Core.List.{List, map, Memᴰ·map}
 use mathlib.Core.Option.{Option, none, some}
-use mathlib.Core.Path.{_≡_, refl, sym, ap, _∙_}
-use Prim.Native.Nat.{ℕ, min, _≤_, _<_}
+use mathlib.Core.Path.{_≡_, refl, sym, _∙_}
+use Prim.Native.Nat.{ℕ, _≤_}
 use native.Mathlib.Decide.{ℕ-discrete}
 use native.Mathlib.Omega.{arith}
 use lib.Dec.{leb, eqb}
 use lib.ListN.{length, take, length-map, length-take}
 use lib.Seq.{length-take-le}
-use borrow.Author.Tests.{eq-eqb, ne-eqb, eqb-true}
-use Rattle.weak_orders.specs.Window.{isLength, isRank, isHeight, padded}
+use borrow.Author.Tests.{eq-eqb, ne-eqb}
+use Rattle.weak_orders.specs.Window.{isLength, padded}
 use Rattle.weak_orders.proofs.Tests.{_∈_, by-test, same-test, says-and, says-as, says-eq, says-itself}
 use Rattle.weak_orders.proofs.Lists.{map-cong, map-same}
 use Rattle.weak_orders.proofs.RankForm.{says-rank, rank-le-length}
@@ -26,7 +26,7 @@ use Rattle.sheets.specs.Sheet.{RawSheet, parse}
 use Rattle.sheets.specs.Held.{sheetHeld, parsedOf}
 use Rattle.sheets.specs.declared.sheet.Parsed.{Parsed}
 use Rattle.sheets.proofs.SheetTexts.{parse-sound}
-use Rattle.sheets.proofs.Decimals.{says-le}
+use Rattle.decimals.proofs.Digits.{says-le}
 use Rattle.sheets.specs.Judgement.{settingOf, roundOf, refusal, judged, judgedSheet, judgedText, rawOf, symbolOf}
 
 -- ---- the tests

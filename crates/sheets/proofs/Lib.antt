@@ -1,16 +1,5 @@
-pub mod Decimals
-pub mod Readers
 pub mod SheetTexts
-pub mod Cursors
-pub mod Answers
-pub mod Gathering
 pub mod SheetFields
 pub mod SheetLines
 pub mod Settings
 pub mod Judging
-pub mod Written
-pub mod WrittenLists
-pub mod Widths
-pub mod Filling
-pub mod Printouts
-pub mod Samples

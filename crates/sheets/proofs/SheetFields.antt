@@ -1,18 +1,46 @@
--- The five fields one after the other, at their places in the line. Assumes nothing.
+-- The fields of the second line one after the other, as the functions answer them. Assumes nothing.
 use mathlib.Core.Bool.{true}
 use mathlib.Core.List.{List}
-use mathlib.Core.Path.{_≡_, refl, sym, ap, _∙_}
-use Prim.Native.Nat.{ℕ, suc, _+_, _-_, _≤_}
+use mathlib.Core.Path.{_≡_, refl}
+use Prim.Native.Nat.{ℕ, _+_, _≤_}
 use native.Mathlib.Omega.{arith}
 use lib.IntN.{ℤ}
 use lib.ListN.{length, drop, length-drop}
 use lib.Seq.{drop-drop}
 use Rattle.weak_orders.specs.Window.{padded}
-use Rattle.sheets.specs.Reading.{Found, found, missing, Reader, further, next, both, ended, number, signedNumber, numbers}
-use Rattle.sheets.specs.Sheet.{fields, sheetOf}
-use Rattle.sheets.specs.Held.{sheetHeld, linesOf}
-use Rattle.sheets.proofs.Readers.{Reads, takes-within}
-use Rattle.sheets.proofs.SheetTexts.{reads-field, reads-signed-field, reads-list}
+use Rattle.decimals.specs.Reading.{Found, found, missing, Reader, further, both, ended, numbers}
+use Rattle.sheets.specs.Sheet.{lengthAndRule, topAndSpacing, fields, sheetOf}
+use Rattle.sheets.specs.Held.{lengthAndRuleOf, topAndSpacingOf, sheetHeld, linesOf}
+use Rattle.sheets.specs.declared.sheet.LengthAndRule.the-variants.{Read as LengthRule, Unread as NoLengthRule}
+use Rattle.sheets.specs.declared.sheet.TopAndSpacing.the-variants.{Read as TopSpacing, Unread as NoTopSpacing}
+use Rattle.decimals.proofs.Answers.{both-none, both-one, both-found}
+use Rattle.decimals.proofs.Readers.{Reads, takes-within}
+use Rattle.sheets.proofs.SheetTexts.{reads-length-and-rule, reads-top-and-spacing, reads-list}
+
+-- ---- from an answer to what was found
+
+pub found-length-and-rule : {n rule k : ℕ} (f : Found (ℕ × ℕ)) → lengthAndRuleOf f ≡ LengthRule n rule k → f ≡ found (n, rule) k
+unfolding lengthAndRuleOf
+found-length-and-rule (found (n, rule) k) e = cc
+found-length-and-rule missing e = absurd (let z : _≡_ {A = ℕ} 0 1 = cc in omega arith)
+
+pub no-length-and-rule : (f : Found (ℕ × ℕ)) → lengthAndRuleOf f ≡ NoLengthRule → f ≡ missing
+unfolding lengthAndRuleOf
+no-length-and-rule (found (n, rule) k) e = absurd (let z : _≡_ {A = ℕ} 0 1 = cc in omega arith)
+no-length-and-rule missing e = refl
+
+pub found-top-and-spacing : {top : ℤ} {spacing k : ℕ} (f : Found (ℤ × ℕ)) → topAndSpacingOf f ≡ TopSpacing top spacing k →
+    f ≡ found (top, spacing) k
+unfolding topAndSpacingOf
+found-top-and-spacing (found (top, spacing) k) e = cc
+found-top-and-spacing missing e = absurd (let z : _≡_ {A = ℕ} 0 1 = cc in omega arith)
+
+pub no-top-and-spacing : (f : Found (ℤ × ℕ)) → topAndSpacingOf f ≡ NoTopSpacing → f ≡ missing
+unfolding topAndSpacingOf
+no-top-and-spacing (found (top, spacing) k) e = absurd (let z : _≡_ {A = ℕ} 0 1 = cc in omega arith)
+no-top-and-spacing missing e = refl
+
+-- ---- the second line
 
 -- what is found behind an index ends within the text
 further-within : {A : Type 0} {p : Reader A} {w : A → List ℕ} {Ok : A → Type 0} {Stop : List ℕ → Type 0} → Reads p w Ok Stop →
@@ -20,51 +48,40 @@ further-within : {A : Type 0} {p : Reader A} {w : A → List ℕ} {Ok : A → Ty
 further-within h s at {x} {k} e l = omega (arith, takes-within (h .sound (drop at s) x k e .0), length-drop at s)
 
 module _ (s : List ℕ) where
-  pub no-n : ended number 32 s ≡ missing → fields s ≡ missing
-  unfolding fields both next
-  no-n e = rw e
+  abbrev rest : Reader ((ℤ × ℕ) × List ℕ)
+  rest = both topAndSpacing (ended (numbers 16) 10)
 
-  module _ {n a : ℕ} (e₁ : ended number 32 s ≡ found n a) where
-    pub n-end : a ≤ length s
-    n-end = takes-within (reads-field .sound s n a e₁ .0)
+  pub no-first : lengthAndRule s ≡ missing → fields s ≡ missing
+  unfolding fields
+  no-first e = both-none lengthAndRule rest s e
 
-    pub no-rule : ended number 32 (drop a s) ≡ missing → fields s ≡ missing
-    unfolding fields both next further
-    no-rule e = rw (e₁, e)
+  module _ {x : ℕ × ℕ} {a : ℕ} (e₁ : lengthAndRule s ≡ found x a) where
+    pub first-end : a ≤ length s
+    first-end = takes-within (reads-length-and-rule .sound s x a e₁ .0)
 
-    module _ {rule b : ℕ} (e₂ : ended number 32 (drop a s) ≡ found rule b) where
-      pub rule-end : a + b ≤ length s
-      rule-end = further-within reads-field s a e₂ n-end
+    pub no-second : topAndSpacing (drop a s) ≡ missing → fields s ≡ missing
+    unfolding fields
+    no-second e = both-one lengthAndRule rest s e₁ (both-none topAndSpacing (ended (numbers 16) 10) (drop a s) e)
 
-      pub no-top : ended signedNumber 32 (drop (a + b) s) ≡ missing → fields s ≡ missing
-      unfolding fields both next further
-      no-top e = rw (e₁, e₂, drop-drop b a s, e)
+    module _ {y : ℤ × ℕ} {b : ℕ} (e₂ : topAndSpacing (drop a s) ≡ found y b) where
+      pub second-end : a + b ≤ length s
+      second-end = further-within reads-top-and-spacing s a e₂ first-end
 
-      module _ {top : ℤ} {c : ℕ} (e₃ : ended signedNumber 32 (drop (a + b) s) ≡ found top c) where
-        pub top-end : a + b + c ≤ length s
-        top-end = further-within reads-signed-field s (a + b) e₃ rule-end
+      pub no-start : ended (numbers 16) 10 (drop (a + b) s) ≡ missing → fields s ≡ missing
+      unfolding fields
+      no-start e =
+          both-one lengthAndRule rest s e₁ (both-one topAndSpacing (ended (numbers 16) 10) (drop a s) e₂ (rw (drop-drop b a s) e))
 
-        pub no-spacing : ended number 32 (drop (a + b + c) s) ≡ missing → fields s ≡ missing
-        unfolding fields both next further
-        no-spacing e = rw (e₁, e₂, drop-drop b a s, e₃, drop-drop c (a + b) s, e)
+      module _ {start : List ℕ} {k : ℕ} (e₃ : ended (numbers 16) 10 (drop (a + b) s) ≡ found start k) where
+        pub start-end : a + b + k ≤ length s
+        start-end = further-within reads-list s (a + b) e₃ second-end
 
-        module _ {spacing d : ℕ} (e₄ : ended number 32 (drop (a + b + c) s) ≡ found spacing d) where
-          pub spacing-end : a + b + c + d ≤ length s
-          spacing-end = further-within reads-field s (a + b + c) e₄ top-end
-
-          pub no-start : ended (numbers 16) 10 (drop (a + b + c + d) s) ≡ missing → fields s ≡ missing
-          unfolding fields both next further
-          no-start e = rw (e₁, e₂, drop-drop b a s, e₃, drop-drop c (a + b) s, e₄, drop-drop d (a + b + c) s, e)
-
-          module _ {start : List ℕ} {k : ℕ} (e₅ : ended (numbers 16) 10 (drop (a + b + c + d) s) ≡ found start k) where
-            pub start-end : a + b + c + d + k ≤ length s
-            start-end = further-within reads-list s (a + b + c + d) e₅ spacing-end
-
-            pub all-fields : fields s ≡ found (n, (rule, (top, (spacing, start)))) (a + b + c + d + k)
-            unfolding fields both next further
-            all-fields =
-                let sum : a + (b + (c + (d + k))) ≡ a + b + c + d + k = omega arith in
-                rw (e₁, e₂, drop-drop b a s, e₃, drop-drop c (a + b) s, e₄, drop-drop d (a + b + c) s, e₅, sum)
+        pub all-fields : fields s ≡ found (x, (y, start)) (a + b + k)
+        unfolding fields
+        all-fields =
+            let sum : a + (b + k) ≡ a + b + k = omega arith in
+            let e : ended (numbers 16) 10 (drop b (drop a s)) ≡ found start k = rw (drop-drop b a s) e₃ in
+            rw sum at (both-found lengthAndRule rest s e₁ (both-found topAndSpacing (ended (numbers 16) 10) (drop a s) e₂ e))
 
 -- no fields, no lines
 pub lines-missing : (s : List ℕ) → fields s ≡ missing → linesOf missing ≡ linesOf (further 0 sheetOf (fields s))
@@ -72,7 +89,7 @@ unfolding further
 lines-missing s e = rw e
 
 pub lines-found : (s : List ℕ) {n rule : ℕ} {top : ℤ} {spacing : ℕ} {start : List ℕ} {k : ℕ} (items : List ℕ) (count : ℕ) →
-    fields s ≡ found (n, (rule, (top, (spacing, start)))) k → items ≡ padded start → count ≡ length start →
+    fields s ≡ found ((n, rule), ((top, spacing), start)) k → items ≡ padded start → count ≡ length start →
     record { found = true; sheet = record { n = n; rule = rule; top = top; spacing = spacing; items = items; count = count }; len = k }
     ≡ linesOf (further 0 sheetOf (fields s))
 unfolding further linesOf sheetHeld

@@ -1,21 +1,19 @@
 -- The two lines of a sheet, and the sheet that is a whole text, as the functions answer them. Assumes nothing.
-use mathlib.Core.Bool.{true, false, cond, false≢true}
+use mathlib.Core.Bool.{true, false, false≢true}
 use mathlib.Core.List.{List}
-use mathlib.Core.Option.{Option, none, some}
-use mathlib.Core.Path.{_≡_, refl, sym, ap, _∙_}
-use Prim.Native.Nat.{ℕ, _+_, _-_, _≤_, _<_}
+use mathlib.Core.Option.{none}
+use mathlib.Core.Path.{_≡_, refl, sym, ap}
+use Prim.Native.Nat.{ℕ, _+_, _≤_, _<_}
 use native.Mathlib.Omega.{arith}
-use lib.Dec.{leb, eqb}
-use lib.ListN.{length, take, drop, length-drop, length-take}
+use lib.ListN.{length, take, drop, length-take}
 use borrow.Author.Tests.{eq-eqb, ne-eqb, le-leb, lt-leb}
 use Rattle.weak_orders.proofs.Tests.{says-no}
-use Rattle.frames.specs.Fields.{sameBytes}
 use Rattle.frames.proofs.ByteTests.{says-same-bytes}
-use Rattle.sheets.specs.Reading.{Found, found, missing, further, behind}
+use Rattle.decimals.specs.Reading.{Found, found, missing, further, behind}
 use Rattle.sheets.specs.Sheet.{RawSheet, titleLine, Fields, fields, sheetOf, sheetLines, wholly, parse}
 use Rattle.sheets.specs.Held.{sheetHeld, linesOf, parsedOf}
 use Rattle.sheets.specs.declared.sheet.Lines.{Lines}
-use Rattle.sheets.proofs.Readers.{takes-within}
+use Rattle.decimals.proofs.Readers.{takes-within}
 use Rattle.sheets.proofs.SheetTexts.{reads-fields}
 
 -- ---- from an answer to what was found

@@ -1,23 +1,24 @@
 -- A text reads as a sheet just if it is the text of that sheet. Assumes nothing.
-use mathlib.Core.Bool.{true, false, cond}
+use mathlib.Core.Bool.{false}
 use mathlib.Core.List.{List, [], _∷_, _++_, append-nil}
 use mathlib.Core.Logic.{_↔_}
-use mathlib.Core.Option.{Option, none, some}
-use mathlib.Core.Path.{_≡_, refl, sym, ap, _∙_}
+use mathlib.Core.Option.{none, some}
+use mathlib.Core.Path.{_≡_, refl, _∙_}
 use Prim.Native.Nat.{ℕ, _≤_}
 use native.Mathlib.Omega.{arith}
 use lib.Dec.{leb, eqb}
-use lib.IntN.{ℤ, natAbs}
+use lib.IntN.{natAbs}
 use lib.ListN.{length, drop, drop-of-length-le}
 use borrow.Author.Tests.{eq-eqb, eqb-true, le-leb, leb-true}
 use Rattle.weak_orders.proofs.Tests.{by-test}
-use Rattle.sheets.specs.Text.{decimal, signed, joined}
-use Rattle.sheets.specs.Reading.{Found, found, missing, isDigit, run, startsWith, both, behind, ended, number, signedNumber, numbers}
-use Rattle.sheets.specs.Sheet.{RawSheet, titleLine, sheetText, Short, Within, IsText, Fields, fields, sheetOf, sheetLines, wholly, parse}
-use Rattle.sheets.proofs.Readers.{Takes, Reads, Items, reads-number, reads-signed, reads-numbers, reads-ended, reads-both, reads-behind}
+use Rattle.decimals.specs.Text.{decimal, signed, joined}
+use Rattle.decimals.specs.Reading.{Found, found, missing, run, startsWith, ended, number, signedNumber, numbers}
+use Rattle.sheets.specs.Sheet.{RawSheet, titleLine, spaced, sheetText, Short, Within, IsText}
+use Rattle.sheets.specs.Sheet.{lengthAndRule, topAndSpacing, Fields, fields, sheetOf, sheetLines, wholly, parse}
+use Rattle.decimals.proofs.Readers.{Reads, Items, reads-number, reads-signed, reads-numbers, reads-ended, reads-both, reads-behind}
 
 fieldsOf : RawSheet → Fields
-fieldsOf x = (x .n, (x .rule, (x .top, (x .spacing, x .start))))
+fieldsOf x = ((x .n, x .rule), ((x .top, x .spacing), x .start))
 
 -- a space ends a number, and a line feed a list
 over : (r : List ℕ) → run (32 ∷ r) ≡ 0
@@ -29,25 +30,35 @@ unfolding run startsWith
 list-over r = (refl, refl)
 
 -- the fields of the second line
-pub reads-field : Reads (ended number 32) (λ v. decimal v ++ (32 ∷ [])) Short (λ r. Unit {0})
+pub reads-field : Reads (ended number 32) (λ v. spaced (decimal v)) Short (λ r. Unit {0})
 reads-field = reads-ended 32 reads-number over
 
-pub reads-signed-field : Reads (ended signedNumber 32) (λ z. signed z ++ (32 ∷ [])) (λ z. Short (natAbs z)) (λ r. Unit {0})
+pub reads-signed-field : Reads (ended signedNumber 32) (λ z. spaced (signed z)) (λ z. Short (natAbs z)) (λ r. Unit {0})
 reads-signed-field = reads-ended 32 reads-signed over
 
 pub reads-list : Reads (ended (numbers 16) 10) (λ l. joined l ++ (10 ∷ [])) (Items 16) (λ r. Unit {0})
 reads-list = reads-ended 10 (reads-numbers 16) list-over
 
+pub reads-length-and-rule : Reads lengthAndRule
+    (λ z. spaced (decimal (z .0)) ++ spaced (decimal (z .1))) (λ z. Short (z .0) × Short (z .1)) (λ r. Unit {0})
+unfolding lengthAndRule
+reads-length-and-rule = reads-both reads-field reads-field
+
+pub reads-top-and-spacing : Reads topAndSpacing
+    (λ z. spaced (signed (z .0)) ++ spaced (decimal (z .1))) (λ z. Short (natAbs (z .0)) × Short (z .1)) (λ r. Unit {0})
+unfolding topAndSpacing
+reads-top-and-spacing = reads-both reads-signed-field reads-field
+
 abbrev pub Limits : RawSheet → Type 0
-Limits x = Short (x .n) × (Short (x .rule) × (Short (natAbs (x .top)) × (Short (x .spacing) × Items 16 (x .start))))
+Limits x = (Short (x .n) × Short (x .rule)) × ((Short (natAbs (x .top)) × Short (x .spacing)) × Items 16 (x .start))
 
 pub reads-fields : Reads fields
-    (λ z. (decimal (z .0) ++ (32 ∷ [])) ++ ((decimal (z .1 .0) ++ (32 ∷ [])) ++ ((signed (z .1 .1 .0) ++ (32 ∷ []))
-    ++ ((decimal (z .1 .1 .1 .0) ++ (32 ∷ [])) ++ (joined (z .1 .1 .1 .1) ++ (10 ∷ []))))))
+    (λ z. (spaced (decimal (z .0 .0)) ++ spaced (decimal (z .0 .1))) ++ ((spaced (signed (z .1 .0 .0)) ++ spaced (decimal (z .1 .0 .1)))
+    ++ (joined (z .1 .1) ++ (10 ∷ []))))
     (λ z. Limits (sheetOf z))
     (λ r. Unit {0})
 unfolding fields
-reads-fields = reads-both reads-field (reads-both reads-field (reads-both reads-signed-field (reads-both reads-field reads-list)))
+reads-fields = reads-both reads-length-and-rule (reads-both reads-top-and-spacing reads-list)
 
 pub reads-lines : Reads sheetLines sheetText Within (λ r. Unit {0})
 unfolding sheetLines sheetText fieldsOf
@@ -59,11 +70,11 @@ reads-lines =
     }
   where
     within : (x : RawSheet) → Limits x → Within x
-    within x (n, (rule, (top, (spacing, (one, few, each))))) =
+    within x ((n, rule), ((top, spacing), (one, few, each))) =
         record { n = n; rule = rule; top = top; spacing = spacing; some-start = one; few-start = few; start = each }
 
     limits : (x : RawSheet) → Within x → Limits x
-    limits x w = (w .n, (w .rule, (w .top, (w .spacing, (w .some-start, w .few-start, w .start)))))
+    limits x w = ((w .n, w .rule), ((w .top, w .spacing), (w .some-start, w .few-start, w .start)))
 
 -- ---- the whole text
 

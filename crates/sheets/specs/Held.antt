@@ -1,34 +1,27 @@
--- What the readers answer, for what they find.
+-- The structs that the readers of a sheet answer with, for what they find.
 use mathlib.Core.Bool.{true, false}
-use mathlib.Core.List.{List}
 use mathlib.Core.Option.{Option, none, some}
 use Prim.Native.Nat.{ℕ}
 use lib.IntN.{ℤ, pos}
 use lib.ListN.{length, replicate}
 use Rattle.weak_orders.specs.Window.{padded}
-use Rattle.sheets.specs.Reading.{Found, found, missing}
-use Rattle.sheets.specs.declared.reader.Decimal.{Decimal}
-use Rattle.sheets.specs.declared.reader.Decimal.the-variants.{Number, NoNumber}
-use Rattle.sheets.specs.declared.reader.SignedDecimal.{SignedDecimal}
-use Rattle.sheets.specs.declared.reader.SignedDecimal.the-variants.{Number as SignedNumber, NoNumber as NoSigned}
-use Rattle.sheets.specs.declared.reader.Decimals.{Decimals}
+use Rattle.decimals.specs.Reading.{Found, found, missing}
+use Rattle.sheets.specs.declared.sheet.LengthAndRule.{LengthAndRule}
+use Rattle.sheets.specs.declared.sheet.LengthAndRule.the-variants.{Read as LengthRule, Unread as NoLengthRule}
+use Rattle.sheets.specs.declared.sheet.TopAndSpacing.{TopAndSpacing}
+use Rattle.sheets.specs.declared.sheet.TopAndSpacing.the-variants.{Read as TopSpacing, Unread as NoTopSpacing}
 use Rattle.sheets.specs.declared.sheet.Sheet.{Sheet}
 use Rattle.sheets.specs.declared.sheet.Lines.{Lines}
 use Rattle.sheets.specs.declared.sheet.Parsed.{Parsed}
 use Rattle.sheets.specs.Sheet.{RawSheet}
 
-unfoldable pub decimalOf : Found ℕ → Decimal
-decimalOf (found v k) = Number v k
-decimalOf missing = NoNumber
+unfoldable pub lengthAndRuleOf : Found (ℕ × ℕ) → LengthAndRule
+lengthAndRuleOf (found (n, rule) k) = LengthRule n rule k
+lengthAndRuleOf missing = NoLengthRule
 
-unfoldable pub signedOf : Found ℤ → SignedDecimal
-signedOf (found z k) = SignedNumber z k
-signedOf missing = NoSigned
-
--- the decimals in an array of sixteen with zeros behind; where there are none, all zeros
-unfoldable pub decimalsOf : Found (List ℕ) → Decimals
-decimalsOf (found l k) = record { found = true; values = padded l; count = length l; len = k }
-decimalsOf missing = record { found = false; values = replicate 16 0; count = 0; len = 0 }
+unfoldable pub topAndSpacingOf : Found (ℤ × ℕ) → TopAndSpacing
+topAndSpacingOf (found (top, spacing) k) = TopSpacing top spacing k
+topAndSpacingOf missing = NoTopSpacing
 
 -- a sheet in its struct, with zeros behind the items; no sheet is zero in every field
 unfoldable pub sheetHeld : RawSheet → Sheet

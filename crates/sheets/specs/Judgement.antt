@@ -1,5 +1,5 @@
 -- What becomes of a sheet (document 01, "The printed round": 14, 6, where n is 1 to 8, 7, 8, 9). Values are judged as they were read.
-use mathlib.Core.Bool.{Bool, true, false, cond, not, _&&_}
+use mathlib.Core.Bool.{true, false, cond, not, _&&_}
 use mathlib.Core.List.{List}
 use mathlib.Core.Option.{Option, none, some}
 use Prim.Native.Nat.{ℕ, min}
@@ -13,7 +13,6 @@ use Rattle.refusals.specs.declared.Cause.the-variants.{WindowLength, RuleNumber
 use Rattle.frames.specs.declared.level.Setting.{Setting}
 use Rattle.frames.specs.Level.{settingOk}
 use Rattle.sheets.specs.declared.judge.Round.{Round}
-use Rattle.sheets.specs.declared.judge.Verdict.{Verdict}
 use Rattle.sheets.specs.declared.judge.Verdict.the-variants.{Accepted, Refused}
 use Rattle.sheets.specs.declared.judge.Judged.{Judged}
 use Rattle.sheets.specs.declared.judge.SettingTest.{SettingTest}

@@ -7,8 +7,8 @@ use Prim.Native.Nat.{ℕ, _≤_}
 use lib.Dec.{leb, eqb}
 use lib.IntN.{ℤ, natAbs}
 use lib.ListN.{length}
-use Rattle.sheets.specs.Text.{decimal, signed, joined}
-use Rattle.sheets.specs.Reading.{Found, found, missing, Reader, both, behind, ended, number, signedNumber, numbers}
+use Rattle.decimals.specs.Text.{decimal, signed, joined}
+use Rattle.decimals.specs.Reading.{Found, found, missing, Reader, both, behind, ended, number, signedNumber, numbers}
 
 pub record RawSheet : Type 0 where
   pub n : ℕ
@@ -25,11 +25,15 @@ titleLine =
 
 -- ---- written
 
+-- a field and the space after it
+abbrev pub spaced : List ℕ → List ℕ
+spaced t = t ++ (32 ∷ [])
+
 -- the two lines: single spaces between the fields, a line feed at the end
 unfoldable pub sheetText : RawSheet → List ℕ
 sheetText x =
-    titleLine ++ ((decimal (x .n) ++ (32 ∷ [])) ++ ((decimal (x .rule) ++ (32 ∷ [])) ++ ((signed (x .top) ++ (32 ∷ []))
-    ++ ((decimal (x .spacing) ++ (32 ∷ [])) ++ (joined (x .start) ++ (10 ∷ []))))))
+    titleLine ++ ((spaced (decimal (x .n)) ++ spaced (decimal (x .rule))) ++ ((spaced (signed (x .top)) ++ spaced (decimal (x .spacing)))
+    ++ (joined (x .start) ++ (10 ∷ []))))
 
 -- a decimal has at most 6 digits
 abbrev pub Short : ℕ → Type 0
@@ -53,14 +57,23 @@ pub record IsText (x : RawSheet) (s : List ℕ) : Type 0 where
 
 -- ---- read
 
+-- n and the rule, with a space after each
+unfoldable pub lengthAndRule : Reader (ℕ × ℕ)
+lengthAndRule = both (ended number 32) (ended number 32)
+
+-- top and spacing, the same
+unfoldable pub topAndSpacing : Reader (ℤ × ℕ)
+topAndSpacing = both (ended signedNumber 32) (ended number 32)
+
+-- the second line
 abbrev pub Fields : Type 0
-Fields = ℕ × (ℕ × (ℤ × (ℕ × List ℕ)))
+Fields = (ℕ × ℕ) × ((ℤ × ℕ) × List ℕ)
 
 unfoldable pub fields : Reader Fields
-fields = both (ended number 32) (both (ended number 32) (both (ended signedNumber 32) (both (ended number 32) (ended (numbers 16) 10))))
+fields = both lengthAndRule (both topAndSpacing (ended (numbers 16) 10))
 
 abbrev pub sheetOf : Fields → RawSheet
-sheetOf (n, (rule, (top, (spacing, start)))) = record { n = n; rule = rule; top = top; spacing = spacing; start = start }
+sheetOf ((n, rule), ((top, spacing), start)) = record { n = n; rule = rule; top = top; spacing = spacing; start = start }
 
 -- the two lines at the start of a text
 unfoldable pub sheetLines : Reader RawSheet

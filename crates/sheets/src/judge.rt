@@ -2,7 +2,7 @@
 ghost use mathlib.Core.Bool.{true};
 ghost use mathlib.Core.List.{map};
 ghost use mathlib.Core.Path.{_≡_};
-ghost use Prim.Native.Nat.{min, _≤_};
+ghost use Prim.Native.Nat.{_≤_};
 ghost use lib.ListN.{take};
 ghost use Rattle.weak_orders.specs.Window.{isLength, padded};
 ghost use Rattle.sheets.specs.Judgement.{symbolOf, settingTest, noSetting, noRound, refusal, rawOf, judged, judgedText};

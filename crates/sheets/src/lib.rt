@@ -1,8 +1,4 @@
-// Sheets and the printed round: a sheet is read and judged, and the lines of its round are written.
-// Rests on refusals, frames for levels, successors for the steps and ranking for a(n). Reads and writes slices only; the program `round`
-// does the input and output.
+// Sheets: the two lines are read, and judged to be a refusal or a round.
+// Rests on decimals for the readers of fields, refusals, frames for levels and successors for the forms. What is printed is in printing.
 pub mod judge;
-pub mod printing;
-pub mod reader;
 pub mod sheet;
-mod writer;

@@ -1,12 +1,11 @@
 // A sheet: its two lines are read, and the values kept as they stand there. Nothing is judged here.
 ghost use mathlib.Core.Option.{none};
 ghost use mathlib.Core.Path.{_≡_};
-ghost use Rattle.sheets.specs.Reading.{missing, further};
-ghost use Rattle.sheets.specs.Sheet.{sheetOf, fields, sheetLines, parse};
-ghost use Rattle.sheets.specs.Held.{blank, linesOf, parsedOf};
-use crate::reader;
-use crate::reader::Decimal;
-use crate::reader::SignedDecimal;
+ghost use Rattle.decimals.specs.Reading.{missing, further};
+ghost use Rattle.sheets.specs.Sheet.{sheetOf, lengthAndRule, topAndSpacing, fields, sheetLines, parse};
+ghost use Rattle.sheets.specs.Held.{lengthAndRuleOf, topAndSpacingOf, blank, linesOf, parsedOf};
+use decimals::Decimal;
+use decimals::SignedDecimal;
 
 // The values of the second line. The start is the first `count` items.
 pub struct Sheet {
@@ -16,6 +15,17 @@ pub struct Sheet {
     pub spacing: u32,
     pub items: [u32; 16],
     pub count: usize,
+}
+
+// The first two fields of the second line, and how many bytes they take; and the two after them.
+enum LengthAndRule {
+    Read { n: u32, rule: u32, len: usize },
+    Unread,
+}
+
+enum TopAndSpacing {
+    Read { top: i32, spacing: u32, len: usize },
+    Unread,
 }
 
 // A sheet at the start of a text, and how many bytes it takes.
@@ -56,53 +66,81 @@ fn no_lines() -> Lines
     }
 }
 
-// The second line: five fields, a space after each of four and a line feed after the start.
-fn fields(s: &[u8]) -> Lines
-    ensures { λ r. ⌜ r ≡ linesOf (further 0 sheetOf (fields (now (s .entry)))) ⌝ }
+// n and the rule, each with a space after it.
+fn length_and_rule(s: &[u8]) -> LengthAndRule
+    ensures { λ r. ⌜ r ≡ lengthAndRuleOf (lengthAndRule (now (s .entry))) ⌝ }
 {
-    let Decimal::Number { value: n, len: a } = reader::number_field(s, 32) else {
-        return no_lines();
+    let Decimal::Number { value: n, len: a } = decimals::number_field(s, 32) else {
+        return LengthAndRule::Unread;
     };
     let Decimal::Number {
         value: rule,
         len: b,
-    } = reader::number_field(&s[a..], 32)
+    } = decimals::number_field(&s[a..], 32)
     else {
-        return no_lines();
+        return LengthAndRule::Unread;
     };
-    let rule_end = a + b;
-    let SignedDecimal::Number { value: top, len: c } = reader::signed_field(&s[rule_end..], 32)
-    else {
-        return no_lines();
+    LengthAndRule::Read {
+        n: n,
+        rule: rule,
+        len: a + b,
+    }
+}
+
+// Top and spacing, each with a space after it.
+fn top_and_spacing(s: &[u8]) -> TopAndSpacing
+    ensures { λ r. ⌜ r ≡ topAndSpacingOf (topAndSpacing (now (s .entry))) ⌝ }
+{
+    let SignedDecimal::Number { value: top, len: a } = decimals::signed_field(s, 32) else {
+        return TopAndSpacing::Unread;
     };
-    let top_end = rule_end + c;
     let Decimal::Number {
         value: spacing,
-        len: d,
-    } = reader::number_field(&s[top_end..], 32)
+        len: b,
+    } = decimals::number_field(&s[a..], 32)
+    else {
+        return TopAndSpacing::Unread;
+    };
+    TopAndSpacing::Read {
+        top: top,
+        spacing: spacing,
+        len: a + b,
+    }
+}
+
+// The second line: four fields, and the start with a line feed after it.
+fn fields(s: &[u8]) -> Lines
+    ensures { λ r. ⌜ r ≡ linesOf (further 0 sheetOf (fields (now (s .entry)))) ⌝ }
+{
+    let LengthAndRule::Read { n, rule, len: a } = length_and_rule(s) else {
+        return no_lines();
+    };
+    let TopAndSpacing::Read {
+        top,
+        spacing,
+        len: b,
+    } = top_and_spacing(&s[a..])
     else {
         return no_lines();
     };
-    let spacing_end = top_end + d;
-    let start = reader::numbers_field(&s[spacing_end..], 10);
+    let end = a + b;
+    let start = decimals::numbers_field(&s[end..], 10);
     if !start.found {
         return no_lines();
     }
     let items = start.values;
-    let count = start.count;
-    let len = start.len;
     let sheet = Sheet {
         n: n,
         rule: rule,
         top: top,
         spacing: spacing,
         items: items,
-        count: count,
+        count: start.count,
     };
     Lines {
         found: true,
         sheet: sheet,
-        len: spacing_end + len,
+        len: end + start.len,
     }
 }
 

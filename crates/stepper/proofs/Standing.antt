@@ -18,7 +18,8 @@ use Rattle.universal_cycle.specs.Round.{Tour, WeakOrder}
 use Rattle.universal_cycle.proofs.Rounds.{universal-cycle}
 use Rattle.refusals.specs.declared.Cause.the-variants.{ShortBuffer}
 use Rattle.frames.specs.Fields.{part}
-use Rattle.frames.specs.Question.{isQuestion, kindIn, letterB, letterS, lengthIn, ruleIn, numberIn, settingIn, windowIn, reservedB, reservedS}
+use Rattle.frames.specs.Question.{isQuestion, kindIn, letterB, letterS, lengthIn, ruleIn, numberIn, settingIn, windowIn, reservedB}
+use Rattle.frames.specs.Question.{reservedS}
 use Rattle.frames.proofs.Padding.{unused-padded, padded-take}
 use Rattle.stepper.specs.Exchange.{hasBegun, refuse, roundIn, onward, stepped, stepOf, stepFrame, handle}
 use Rattle.stepper.specs.TwoBenches.{Arrival, passes, isNext, isResend, accepts, roundOf, causeAt}

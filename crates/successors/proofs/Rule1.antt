@@ -15,11 +15,13 @@ use Rattle.weak_orders.specs.Window.{num, isRank}
 use Rattle.weak_orders.proofs.Lists.{mem-take}
 use Rattle.weak_orders.proofs.RankForm.{Rank, says-rank, rank-positive, rank-le-length, rank-gap, rank-one}
 use Rattle.weak_orders.proofs.Symbols.{num-same, num-other, num-mem}
-use Rattle.weak_orders.proofs.Tests.{_∈_, here, there, nowhere, split-mem, true?, cond-yes, cond-no, says-as, says-eq, says-lt, says-and, says-or, says-not}
+use Rattle.weak_orders.proofs.Tests.{_∈_, here, there, nowhere, split-mem, true?, cond-yes, cond-no, says-as, says-eq, says-lt, says-and}
+use Rattle.weak_orders.proofs.Tests.{says-or, says-not}
 use Rattle.weak_orders.proofs.Tests.{says-all}
 use Rattle.successors.specs.Rules.{isPlain, largestBelow, before, case3, case4, rule1}
 use Rattle.successors.proofs.FirstSymbol.{change}
-use Rattle.successors.proofs.Singles.{Single, says-single, Plain, says-plain, Under, under-rise, under-fall, under-once, rank-rise, rank-fall, under-largest}
+use Rattle.successors.proofs.Singles.{Single, says-single, Plain, says-plain, Under, under-rise, under-fall, under-once, rank-rise}
+use Rattle.successors.proofs.Singles.{rank-fall, under-largest}
 use Rattle.successors.proofs.Singles.{under-num, tail-num}
 
 -- The four cases of the rule, as tests and as statements.

@@ -14,13 +14,15 @@ use Rattle.weak_orders.proofs.Iterates.{stay, _⨟_}
 use Rattle.weak_orders.proofs.Lists.{mem-replicate, mem-take, says-same, all-same, total, total-le, last-fail, last-unique}
 use Rattle.weak_orders.proofs.Orders.{lex-antisymm, lex-head}
 use Rattle.weak_orders.proofs.RankForm.{Rank, says-rank, rank-ring, rank-positive, rank-next, rank-one}
-use Rattle.weak_orders.proofs.Rotations.{round, turn, _⟳_, turned, swing, ⟳-sym, front-once, length-ring, num-ring, total-ring, mem-ring, to-front, rotation-split}
+use Rattle.weak_orders.proofs.Rotations.{round, turn, _⟳_, turned, swing, ⟳-sym, front-once, length-ring, num-ring, total-ring, mem-ring}
+use Rattle.weak_orders.proofs.Rotations.{to-front, rotation-split}
 use Rattle.weak_orders.proofs.Rotations.{least, Start, start-first}
 use Rattle.weak_orders.proofs.Symbols.{num-mem, below-zero, below-flat}
 use Rattle.weak_orders.proofs.Tests.{_∈_, here, nowhere, true?, says?, says-all}
 use Rattle.successors.specs.Rules.{before, rule1}
 use Rattle.successors.proofs.FirstSymbol.{change}
-use Rattle.successors.proofs.Rule1.{Case1, Case3, exit1, Exit1, says-exit1, weight, weight-le, case1-under, exit-partner, other-partner, rank-change}
+use Rattle.successors.proofs.Rule1.{Case1, Case3, exit1, Exit1, says-exit1, weight, weight-le, case1-under, exit-partner, other-partner}
+use Rattle.successors.proofs.Rule1.{rank-change}
 use Rattle.successors.proofs.Singles.{Single, says-single, Plain, says-plain, single-ring, plain-ring, under-absent}
 use Rattle.universal_cycle.proofs.Joined.{Home, home, via, Leads, first, Joined}
 

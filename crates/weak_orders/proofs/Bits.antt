@@ -1,7 +1,6 @@
 -- Sets of symbols as bits: bit v is set where v occurs, so the ones below bit k are the different symbols below k. Assumes nothing.
-use mathlib.Core.Bool.{true, false, cond}
 use mathlib.Core.List.{List, [], _∷_, List·Memᴰ·head}
-use mathlib.Core.Path.{_≡_, refl, sym, ap, ap₂, subst, _∙_}
+use mathlib.Core.Path.{_≡_, refl, sym, ap, ap₂, _∙_}
 use Prim.Native.Nat.{ℕ, zero, suc, _+_, _*_, _/_, _%_, _^_, max, _<_, _≤_}
 use native.Mathlib.Nat.{pow-suc, div-one, div-eq-of-lt, mul-div-mul-right, mod-lt, mod-one, mod-eq-of-lt, one-mul, zero-div}
 use native.Mathlib.Omega.{arith}
@@ -9,8 +8,7 @@ use native.Mathlib.Decide.{decLt, ℕ-discrete}
 use lib.Arith.{digits-mod}
 use lib.Bits.{bitOr, or-step, or-shr, or-lt, shifted-even}
 use lib.Count.{ones, ones-cat}
-use lib.Dec.{eqb, eqb·zero-suc, eqb·suc-zero, eqb·suc-suc, lit<, ltb}
-use lib.ListN.{length}
+use lib.Dec.{eqb, eqb·zero-suc, eqb·suc-zero, eqb·suc-suc, lit<}
 use lib.Pow.{pow-pos, pow-lt, mod-pow-add}
 use borrow.Author.Tests.{lt-ltb, le-ltb, eq-eqb, ne-eqb}
 use Rattle.weak_orders.specs.Window.{num, occurs, height, different, bound}

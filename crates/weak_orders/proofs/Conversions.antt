@@ -11,7 +11,8 @@ use Rattle.weak_orders.specs.Window.{occurs, below, height, isRank, isHe
 use Rattle.weak_orders.proofs.HeightForm.{says-height}
 use Rattle.weak_orders.proofs.Lists.{map-cong, map-map, map-same}
 use Rattle.weak_orders.proofs.RankForm.{says-rank}
-use Rattle.weak_orders.proofs.Symbols.{occurs-in, in-occurs, below-zero, below-mono, below-strict, below-map, ltb-same, height-zero, height-step, height-mono}
+use Rattle.weak_orders.proofs.Symbols.{occurs-in, in-occurs, below-zero, below-mono, below-strict, below-map, ltb-same, height-zero}
+use Rattle.weak_orders.proofs.Symbols.{height-step, height-mono}
 use Rattle.weak_orders.proofs.Symbols.{height-strict, height-past, height-find}
 use Rattle.weak_orders.proofs.Tests.{_∈_, by-test}
 

@@ -11,7 +11,8 @@ use Rattle.weak_orders.specs.Says.{Says}
 use Rattle.weak_orders.specs.Window.{different, isHeight, bound}
 use Rattle.weak_orders.proofs.Lists.{says-below}
 use Rattle.weak_orders.proofs.Rotations.{_⟳_, ⟳-sym, mem-ring, turned-rotation}
-use Rattle.weak_orders.proofs.Symbols.{says-occurs, occurs-in, in-occurs, height-full, full-height, bound-in, bound-find, different-below, different≤length}
+use Rattle.weak_orders.proofs.Symbols.{says-occurs, occurs-in, in-occurs, height-full, full-height, bound-in, bound-find}
+use Rattle.weak_orders.proofs.Symbols.{different-below, different≤length}
 use Rattle.weak_orders.proofs.Tests.{_∈_, says-all}
 
 -- with each symbol every smaller number is present

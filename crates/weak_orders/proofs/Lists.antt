@@ -13,7 +13,8 @@ use lib.ListN.{length, getD, take, drop, take-append-drop, replicate, length-app
 use lib.Seq.{getD-at}
 use Rattle.weak_orders.specs.Says.{Says}
 use Rattle.weak_orders.specs.Window.{all, count, range}
-use Rattle.weak_orders.proofs.Tests.{_∈_, here, there, nowhere, split-mem, by-test, bit, bit≤1, says?, says-as, says-itself, says-eq, says-all}
+use Rattle.weak_orders.proofs.Tests.{_∈_, here, there, nowhere, split-mem, by-test, bit, bit≤1, says?, says-as, says-itself}
+use Rattle.weak_orders.proofs.Tests.{says-eq, says-all}
 
 -- ---- members
 

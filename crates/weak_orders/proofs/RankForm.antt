@@ -11,7 +11,8 @@ use Rattle.weak_orders.specs.Rotation.{rotation}
 use Rattle.weak_orders.specs.Says.{Says}
 use Rattle.weak_orders.specs.Window.{num, below, isRank}
 use Rattle.weak_orders.proofs.Rotations.{_⟳_, below-ring, mem-ring, turned-rotation}
-use Rattle.weak_orders.proofs.Symbols.{num-mem, below-less, below-more, below-le-length, below-suc, below-zero, below-mono, below-flat, least-from}
+use Rattle.weak_orders.proofs.Symbols.{num-mem, below-less, below-more, below-le-length, below-suc, below-zero, below-mono}
+use Rattle.weak_orders.proofs.Symbols.{below-flat, least-from}
 use Rattle.weak_orders.proofs.Tests.{_∈_, there, split-mem, says-eq, says-all}
 
 -- each symbol is 1 plus the number of places that hold a smaller one

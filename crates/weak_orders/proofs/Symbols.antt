@@ -12,7 +12,8 @@ use lib.ListN.{length}
 use borrow.Author.Tests.{ltb-true, ltb-false, eqb-true, lt-ltb, le-ltb, eq-eqb, ne-eqb}
 use Rattle.weak_orders.specs.Says.{Says}
 use Rattle.weak_orders.specs.Window.{range, num, occurs, different, bound, below, height}
-use Rattle.weak_orders.proofs.Lists.{count-nil, count-cons, count-append, count-le-length, count-cong, count-map, count-none, count-pos, count-find, of-range}
+use Rattle.weak_orders.proofs.Lists.{count-nil, count-cons, count-append, count-le-length, count-cong, count-map, count-none}
+use Rattle.weak_orders.proofs.Lists.{count-pos, count-find, of-range}
 use Rattle.weak_orders.proofs.Lists.{count-range}
 use Rattle.weak_orders.proofs.Tests.{_∈_, here, there, nowhere, split-mem, by-test, bit, bit≤1, says?, says-as, says-lt}
 

@@ -1,5 +1,5 @@
 -- The rotations of a window, and which of them is least or greatest in dictionary order (document 01, "Rule 1" and "Rules 2 and 3").
-use mathlib.Core.Bool.{Bool, true, false, cond}
+use mathlib.Core.Bool.{Bool, cond}
 use mathlib.Core.List.{List, [], _∷_, _++_, map}
 use Prim.Native.Nat.{ℕ, suc}
 use lib.ListN.{length, take, drop}

@@ -1,5 +1,5 @@
 -- Windows as lists of symbols, oldest first, and the two forms of a weak order (document 01, "Windows"; 002, section 1.1).
-use mathlib.Core.Bool.{Bool, true, false, cond, _&&_}
+use mathlib.Core.Bool.{Bool, true, cond, _&&_}
 use mathlib.Core.List.{List, [], _∷_, _++_, map}
 use Prim.Native.Nat.{ℕ, zero, suc, max, _-_}
 use lib.Dec.{ltb, leb, eqb}

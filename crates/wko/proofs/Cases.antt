@@ -1,8 +1,8 @@
 -- The cases of the direct calls. Assumes nothing.
-use mathlib.Core.Bool.{Bool, true, false, cond, not, _&&_}
+use mathlib.Core.Bool.{Bool, true, false, _&&_}
 use mathlib.Core.List.{List, _++_}
-use mathlib.Core.Path.{_≡_, refl, sym, ap, _∙_}
-use Prim.Native.Nat.{ℕ, _≤_, _<_}
+use mathlib.Core.Path.{_≡_, refl, _∙_}
+use Prim.Native.Nat.{ℕ, _≤_}
 use native.Mathlib.Omega.{arith}
 use native.Mathlib.Decide.{decLt, ℕ-discrete}
 use lib.Dec.{ltb, eqb}
@@ -25,7 +25,8 @@ use Rattle.ranking.proofs.Places.{heights-numbered}
 use Rattle.successors.specs.NextSymbol.{nextSymbol}
 use Rattle.successors.specs.Rules.{inForm, isRule}
 use Rattle.frames.specs.Fields.{bytes64}
-use Rattle.wko.specs.Calls.{refuse, accept, windowCall, placeCall, windowAtCall, lengthTests, given, givenPlace, answerOf, nextSymbolCall}
+use Rattle.wko.specs.Calls.{refuse, accept, windowCall, placeCall, windowAtCall, lengthTests, given, givenPlace, answerOf}
+use Rattle.wko.specs.Calls.{nextSymbolCall}
 
 -- the tests on lengths pass, or one of them decides the call
 pub record Passed (n need window out : ℕ) : Type 0 where

@@ -6,9 +6,9 @@ use lib.Seq.{length-take-le}
 use borrow.Author.Tests.{not-true, not-false}
 use Rattle.weak_orders.proofs.Tests.{false→not-true}
 use Rattle.sheets.specs.Held.{linesOf}
-use Rattle.sheets.specs.Reading.{further}
+use Rattle.decimals.specs.Reading.{further}
 use Rattle.sheets.specs.Sheet.{fields, sheetOf, sheetLines}
-use Rattle.sheets.proofs.Cursors.{part-from}
+use Rattle.decimals.proofs.Cursors.{part-from}
 use Rattle.sheets.proofs.SheetLines.{short-text, other-title, same-title, second-missing, second-found, second-within}
 use borrow.Author.Needs.{needs}
 use Rattle.sheets.proofs.sheet.sheet_lines.Statement.{statement}

@@ -1,0 +1,6 @@
+pub mod Written
+pub mod WrittenLists
+pub mod Widths
+pub mod Filling
+pub mod Printouts
+pub mod Samples

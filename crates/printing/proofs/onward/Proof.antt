@@ -1,0 +1,19 @@
+-- `onward`: the window stepped, and one more step done. Assumes nothing.
+use Rattle.printing.specs.Printing.{onward}
+use Rattle.printing.proofs.Filling.{steps-of}
+use borrow.Author.Needs.{needs}
+use Rattle.printing.proofs.onward.Statement.{statement}
+use Rattle.printing.proofs.onward.Tie as tie
+
+step-requires : tie.Need-step-requires
+step-requires c κs = let s = steps-of (c .before .args .p) (c .before .pre .0) in (s .sized, s .known, s .formed)
+
+add-q : tie.Need-add-q
+add-q c = search needs
+
+returns : tie.Need-returns
+unfolding onward
+returns c = rw (c .before .step .ensures)
+
+pub onward-spec : {M : Type 1} → statement M
+onward-spec = tie.close (tie.spec step-requires add-q returns)

@@ -1,0 +1,129 @@
+-- What is printed (document 01, "The printed round"): a line for each step of the round, or the refusal.
+use mathlib.Core.Bool.{Bool, cond, _&&_}
+use mathlib.Core.List.{List, [], _∷_, _++_}
+use Prim.Native.Nat.{ℕ, zero, suc, _+_, _-_}
+use lib.Dec.{leb, ltb}
+use lib.IntN.{ℤ}
+use lib.ListN.{length, take, drop}
+use Rattle.weak_orders.specs.Window.{iter, isLength, padded}
+use Rattle.ranking.specs.Counts.{a}
+use Rattle.successors.specs.Rules.{ruleOf, inForm, isRule, step}
+use Rattle.refusals.specs.Numbers.{causeNumber}
+use Rattle.frames.specs.declared.level.Setting.{Setting}
+use Rattle.frames.specs.Level.{levelOf}
+use Rattle.frames.specs.Answer.{newest}
+use Rattle.sheets.specs.declared.judge.Round.{Round}
+use Rattle.sheets.specs.declared.judge.Verdict.{Verdict}
+use Rattle.sheets.specs.declared.judge.Verdict.the-variants.{Accepted, Refused}
+use Rattle.sheets.specs.declared.judge.Judged.{Judged}
+use Rattle.printing.specs.declared.Printing.{Printing}
+use Rattle.printing.specs.declared.Page.{Page}
+use Rattle.decimals.specs.Text.{decimal, signed, joined}
+use Rattle.sheets.specs.Judgement.{judgedText}
+
+-- ---- the text
+
+-- a line: step number, symbol appended, level, window after; single spaces, and a line feed at the end
+unfoldable pub lineText : ℕ → ℕ → ℤ → List ℕ → List ℕ
+lineText k symbol level w =
+    (decimal k ++ (32 ∷ [])) ++ ((decimal symbol ++ (32 ∷ [])) ++ ((signed level ++ (32 ∷ [])) ++ (joined w ++ (10 ∷ []))))
+
+-- the line of the window w after k steps: the symbol appended is its newest
+unfoldable pub stepLine : ℕ → ℕ → Setting → List ℕ → List ℕ
+stepLine k rule setting w = lineText k (newest w) (levelOf rule setting (newest w)) w
+
+-- the line of step k of a round
+unfoldable pub roundLine : Round → ℕ → List ℕ
+roundLine r k = stepLine k (r .rule) (r .setting) (iter (step (ruleOf (r .rule))) k (take (r .n) (r .window)))
+
+-- the lines of steps 1 to k
+unfoldable pub roundLines : Round → ℕ → List ℕ
+roundLines r zero = []
+roundLines r (suc k) = roundLines r k ++ roundLine r (suc k)
+
+-- step symbol level window
+abbrev pub heading : List ℕ
+heading =
+    115 ∷ 116 ∷ 101 ∷ 112 ∷ 32 ∷ 115 ∷ 121 ∷ 109 ∷ 98 ∷ 111 ∷ 108 ∷ 32 ∷ 108 ∷ 101 ∷ 118 ∷ 101 ∷ 108
+    ∷ 32 ∷ 119 ∷ 105 ∷ 110 ∷ 100 ∷ 111 ∷ 119 ∷ 10 ∷ []
+
+-- the line refused
+abbrev pub refusedLine : List ℕ
+refusedLine = 114 ∷ 101 ∷ 102 ∷ 117 ∷ 115 ∷ 101 ∷ 100 ∷ 10 ∷ []
+
+unfoldable pub openingText : Verdict → List ℕ
+openingText Accepted = heading
+openingText (Refused cause) = refusedLine ++ (decimal (causeNumber cause) ++ (10 ∷ []))
+
+-- how many steps are printed: a(n) where the sheet is accepted
+unfoldable pub stepsOf : Verdict → ℕ → ℕ
+stepsOf Accepted n = a n
+stepsOf (Refused cause) n = 0
+
+-- all that is printed for the text of a sheet
+unfoldable pub printedText : List ℕ → List ℕ
+printedText s =
+    let j = judgedText s in
+    openingText (j .verdict) ++ roundLines (j .round) (stepsOf (j .verdict) (j .round .n))
+
+-- ---- in pages
+
+-- before the first line. There are no windows of more than 16 symbols, and so no lines
+unfoldable pub lineCount : Verdict → ℕ → ℕ
+lineCount v n = cond (leb n 16) (stepsOf v n) 0
+
+unfoldable pub started : Judged → Printing
+started j =
+    let r = j .round in
+    record { n = r .n; rule = r .rule; setting = r .setting; window = r .window; done = 0; last = lineCount (j .verdict) (r .n) }
+
+-- one step further
+unfoldable pub onward : Printing → Printing
+onward p =
+    record {
+      n = p .n;
+      rule = p .rule;
+      setting = p .setting;
+      window = padded (step (ruleOf (p .rule)) (take (p .n) (p .window)));
+      done = p .done + 1;
+      last = p .last;
+    }
+
+-- the line of the step made last
+unfoldable pub lastLine : Printing → List ℕ
+lastLine p = stepLine (p .done) (p .rule) (p .setting) (take (p .n) (p .window))
+
+-- what a page holds, and where it leaves off
+abbrev pub Printed : Type 0
+Printed = Printing × List ℕ
+
+unfoldable pub below : List ℕ → Printed → Printed
+below line (p, text) = (p, line ++ text)
+
+-- up to so many lines while there are 128 bytes of room, which any line fits in
+unfoldable pub pageOf : ℕ → ℕ → Printing → Printed
+pageOf zero room p = (p, [])
+pageOf (suc left) room p =
+    let q = onward p in
+    cond (ltb room 128) (p, []) (below (lastLine q) (pageOf left (room - length (lastLine q)) q))
+
+-- a text over the front of a buffer; what lies behind stays
+unfoldable pub over : List ℕ → List ℕ → List ℕ
+over text buffer = text ++ drop (length text) buffer
+
+-- the next page in a buffer. A state with no window in its rule's form stays as it is
+unfoldable pub steppable : Printing → Bool
+steppable p = isRule (p .rule) && (isLength (p .n) && inForm (p .rule) (take (p .n) (p .window)))
+
+unfoldable pub pageIn : ℕ → Printing → Printed
+pageIn room p = cond (steppable p) (pageOf (p .last - p .done) room p) (p, [])
+
+unfoldable pub laidOut : Printed → List ℕ → Page × List ℕ
+laidOut (p, text) buffer = (record { printing = p; len = length text }, over text buffer)
+
+unfoldable pub nextPage : Printing → List ℕ → Page × List ℕ
+nextPage p buffer = laidOut (pageIn (length buffer) p) buffer
+
+-- the opening in a buffer of 128 bytes or more
+unfoldable pub opening : Verdict → List ℕ → ℕ × List ℕ
+opening v buffer = cond (ltb (length buffer) 128) (0, buffer) (length (openingText v), over (openingText v) buffer)
