@@ -47,10 +47,7 @@ pub fn level(rule: u8, setting: Setting, symbol: u8) -> i32
 pub fn setting_ok(n: usize, setting: Setting) -> bool
     ensures { λ r. ⌜ r ≡ (isLength n && settingOk n setting) ⌝ }
 {
-    if n < 1 {
-        return false;
-    }
-    if 16 < n {
+    if !weak_orders::is_length(n) {
         return false;
     }
     let top = setting.top;

@@ -12,13 +12,15 @@ use borrow.Author.Tests.{lt-ltb, le-ltb}
 use Rattle.weak_orders.specs.Window.{isLength}
 use Rattle.weak_orders.proofs.FormTests.{says-length}
 use Rattle.weak_orders.proofs.Padded.{take-padded, length-padded}
-use Rattle.weak_orders.proofs.Tests.{says-and, says-itself, says-lt}
+use Rattle.weak_orders.proofs.Tests.{says-and, says-lt}
+use Rattle.successors.specs.NextSymbol.{steppable}
 use Rattle.successors.specs.Rules.{ruleOf, inForm, isRule, step}
+use Rattle.successors.proofs.Steppable.{says-steppable}
 use Rattle.successors.proofs.StepForm.{step-length, step-in-form}
 use Rattle.frames.specs.Answer.{newest}
 use Rattle.frames.specs.Level.{levelOf}
 use Rattle.printing.specs.Writing.{written, Wrote}
-use Rattle.printing.specs.Printing.{lineText, stepLine, Printed, onward, lastLine, below, pageOf, over, steppable, pageIn, laidOut}
+use Rattle.printing.specs.Printing.{lineText, stepLine, Printed, onward, lastLine, below, pageOf, over, pageIn, laidOut}
 use Rattle.printing.specs.Printing.{nextPage}
 use Rattle.printing.specs.declared.Printing.{Printing}
 use Rattle.decimals.proofs.Digits.{says-le}
@@ -31,15 +33,13 @@ pub record Steps (p : Printing) : Type 0 where
   pub sized : isLength (p .n) ≡ true
   pub formed : inForm (p .rule) (take (p .n) (p .window)) ≡ true
 
-pub steps-of : (p : Printing) → steppable p ≡ true → Steps p
-unfolding steppable
+pub steps-of : (p : Printing) → steppable (p .rule) (p .n) (p .window) ≡ true → Steps p
 steps-of p e =
-    let (r, (l, f)) = says-and (says-itself _) (says-and (says-itself _) (says-itself _)) .to e in
+    let (r, (l, f)) = says-steppable (p .rule) (p .n) (p .window) .to e in
     record { known = r; sized = l; formed = f }
 
-pub of-steps : (p : Printing) → Steps p → steppable p ≡ true
-unfolding steppable
-of-steps p s = rw (s .known, s .sized, s .formed)
+pub of-steps : (p : Printing) → Steps p → steppable (p .rule) (p .n) (p .window) ≡ true
+of-steps p s = says-steppable (p .rule) (p .n) (p .window) .of (s .known, (s .sized, s .formed))
 
 -- the window after a step
 module _ (p : Printing) (s : Steps p) (long : length (p .window) ≡ 16) where
@@ -149,7 +149,7 @@ module _ {p : Printing} {out : List ℕ} {now : Printing} {len : ℕ} {out′ : 
       length (lastLine q) ≤ 128 → Wrote out′ len (lastLine q) len′ out″ → Filling p out q len′ out″
   filling-on q e d h b w = rw e (one-more d h (rw e at b) (rw e at w))
 
-  pub filling-over : steppable p ≡ true → (ltb (now .done) (now .last) && leb 128 (length out′ - len)) ≡ false →
+  pub filling-over : steppable (p .rule) (p .n) (p .window) ≡ true → (ltb (now .done) (now .last) && leb 128 (length out′ - len)) ≡ false →
       (record { printing = now; len = len }, out′) ≡ nextPage p out
   unfolding nextPage pageIn laidOut over below written
   filling-over t e =

@@ -15,6 +15,7 @@ use Rattle.weak_orders.proofs.FormTests.{says-length}
 use Rattle.weak_orders.proofs.Padded.{take-padded, length-padded}
 use Rattle.weak_orders.proofs.Tests.{_∈_, here, there, by-test, says-and, says-eq, says-itself}
 use Rattle.ranking.specs.Counts.{a}
+use Rattle.successors.specs.NextSymbol.{steppable}
 use Rattle.successors.specs.Rules.{ruleOf, inForm, isRule, step}
 use Rattle.universal_cycle.specs.Round.{WeakOrder, Tour}
 use Rattle.universal_cycle.proofs.Rounds.{universal-cycle}
@@ -28,7 +29,7 @@ use Rattle.printing.specs.declared.Printing.{Printing}
 use Rattle.sheets.specs.Sheet.{RawSheet, parse}
 use Rattle.sheets.specs.Judgement.{settingOf, roundOf, refusal, judged, judgedSheet, judgedText}
 use Rattle.printing.specs.Printing.{roundLine, roundLines, openingText, stepsOf, printedText, lineCount, started, onward, lastLine}
-use Rattle.printing.specs.Printing.{Printed, below, pageOf, steppable, pageIn}
+use Rattle.printing.specs.Printing.{Printed, below, pageOf, pageIn}
 use Rattle.printing.specs.Claims.{pages, Claims}
 use Rattle.sheets.proofs.Judging.{in-bounds}
 use Rattle.sheets.proofs.SheetTexts.{reads-as}
@@ -154,7 +155,7 @@ outcome s = go (parse s)
 -- ---- what is printed for it
 
 -- a refused sheet has no lines
-idle : (p : Printing) → steppable p ≡ false → (rooms : List ℕ) → pages rooms p ≡ (p, [])
+idle : (p : Printing) → steppable (p .rule) (p .n) (p .window) ≡ false → (rooms : List ℕ) → pages rooms p ≡ (p, [])
 unfolding pages pageIn below
 idle p e [] = refl
 idle p e (room ∷ rooms) = rw (e, idle p e rooms)

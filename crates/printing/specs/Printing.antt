@@ -1,13 +1,14 @@
 -- What is printed (document 01, "The printed round"): a line for each step of the round, or the refusal.
-use mathlib.Core.Bool.{Bool, cond, _&&_}
+use mathlib.Core.Bool.{cond}
 use mathlib.Core.List.{List, [], _∷_, _++_}
 use Prim.Native.Nat.{ℕ, zero, suc, _+_, _-_}
 use lib.Dec.{leb, ltb}
 use lib.IntN.{ℤ}
 use lib.ListN.{length, take, drop}
-use Rattle.weak_orders.specs.Window.{iter, isLength, padded}
+use Rattle.weak_orders.specs.Window.{iter, padded}
 use Rattle.ranking.specs.Counts.{a}
-use Rattle.successors.specs.Rules.{ruleOf, inForm, isRule, step}
+use Rattle.successors.specs.NextSymbol.{steppable}
+use Rattle.successors.specs.Rules.{ruleOf, step}
 use Rattle.refusals.specs.Numbers.{causeNumber}
 use Rattle.frames.specs.declared.level.Setting.{Setting}
 use Rattle.frames.specs.Level.{levelOf}
@@ -112,11 +113,8 @@ unfoldable pub over : List ℕ → List ℕ → List ℕ
 over text buffer = text ++ drop (length text) buffer
 
 -- the next page in a buffer. A state with no window in its rule's form stays as it is
-unfoldable pub steppable : Printing → Bool
-steppable p = isRule (p .rule) && (isLength (p .n) && inForm (p .rule) (take (p .n) (p .window)))
-
 unfoldable pub pageIn : ℕ → Printing → Printed
-pageIn room p = cond (steppable p) (pageOf (p .last - p .done) room p) (p, [])
+pageIn room p = cond (steppable (p .rule) (p .n) (p .window)) (pageOf (p .last - p .done) room p) (p, [])
 
 unfoldable pub laidOut : Printed → List ℕ → Page × List ℕ
 laidOut (p, text) buffer = (record { printing = p; len = length text }, over text buffer)

@@ -7,8 +7,9 @@ ghost use mathlib.Core.Path.{_≡_};
 ghost use Prim.Native.Nat.{_+_, _≤_, _<_};
 ghost use lib.ListN.{length, take};
 ghost use Rattle.weak_orders.specs.Window.{isLength};
+ghost use Rattle.successors.specs.NextSymbol.{steppable};
 ghost use Rattle.printing.specs.Writing.{Wrote, Counts};
-ghost use Rattle.printing.specs.Printing.{lineText, lineCount, opening, started, steppable, onward, lastLine, nextPage};
+ghost use Rattle.printing.specs.Printing.{lineText, lineCount, opening, started, onward, lastLine, nextPage};
 use frames::level;
 use frames::level::Setting;
 use sheets::judge::Judged;
@@ -100,17 +101,9 @@ pub fn put_opening(verdict: Verdict, out: &mut [u8]) -> usize
     }
 }
 
-// A window in its rule's form can be stepped.
-fn can_step(p: Printing) -> bool
-    ensures { λ r. ⌜ r ≡ steppable p ⌝ }
-{
-    let w = p.window;
-    ((1 <= p.rule) & (p.rule <= 3)) & successors::in_form(p.rule, w, p.n)
-}
-
 // One step further.
 fn onward(p: Printing) -> Printing
-    requires { ⌜ (steppable p ≡ true) × (p .done < p .last) ⌝ }
+    requires { ⌜ (steppable (p .rule) (p .n) (p .window) ≡ true) × (p .done < p .last) ⌝ }
     ensures { λ r. ⌜ r ≡ onward p ⌝ }
 {
     let w = p.window;
@@ -139,7 +132,8 @@ pub fn next_page(p: Printing, out: &mut [u8]) -> Page
     ensures { λ r. ⌜ (r, now (out .exit)) ≡ nextPage p (now (out .entry)) ⌝ }
     ensures within { λ r. ⌜ Counts (r .len) (now (out .exit)) ⌝ }
 {
-    if !can_step(p) {
+    let w = p.window;
+    if !successors::can_step(p.rule, w, p.n) {
         return Page {
             printing: p,
             len: 0,

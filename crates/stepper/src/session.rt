@@ -57,10 +57,10 @@ pub fn begin_reply(s: Session) -> Reply
     let rule = s.rule;
     let w = s.window;
     let setting = s.setting;
-    if !((1 <= n) & (n <= 16)) {
+    if !weak_orders::is_length(n) {
         return Reply::Refused(Cause::WindowLength);
     }
-    if !((1 <= rule) & (rule <= 3)) {
+    if !successors::is_rule(rule) {
         return Reply::Refused(Cause::RuleNumber);
     }
     if !window_ok(n, rule, w) {

@@ -12,3 +12,4 @@ pub mod Rule1Cases
 pub mod SetRTests
 pub mod RuleNumbers
 pub mod StepForm
+pub mod Steppable

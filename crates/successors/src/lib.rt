@@ -13,7 +13,7 @@ ghost use mathlib.Core.Bool.{true, _&&_};
 ghost use mathlib.Core.Path.{_≡_};
 ghost use lib.ListN.{take};
 ghost use Rattle.weak_orders.specs.Window.{isLength, padded};
-ghost use Rattle.successors.specs.NextSymbol.{nextSymbol};
+ghost use Rattle.successors.specs.NextSymbol.{steppable, nextSymbol};
 ghost use Rattle.successors.specs.Rules.{inForm, isRule, ruleOf, step};
 
 // The first n symbols are a weak order of n in the rule's form: ranks for rule 1, heights for the others.
@@ -40,6 +40,20 @@ fn successor(rule: u8, w: [u8; 16], n: usize) -> u8
     successor3(w, n)
 }
 
+// The rules are 1, 2 and 3.
+pub fn is_rule(rule: u8) -> bool
+    ensures { λ r. ⌜ r ≡ isRule rule ⌝ }
+{
+    (1 <= rule) & (rule <= 3)
+}
+
+// There is such a rule, and the window is in its form.
+pub fn can_step(rule: u8, w: [u8; 16], n: usize) -> bool
+    ensures { λ r. ⌜ r ≡ steppable rule n w ⌝ }
+{
+    is_rule(rule) & in_form(rule, w, n)
+}
+
 // The symbol that follows, or that there is no such rule or no such window under it.
 pub enum Next {
     Symbol(u8),
@@ -49,10 +63,7 @@ pub enum Next {
 pub fn next_symbol(rule: u8, w: [u8; 16], n: usize) -> Next
     ensures { λ r. ⌜ r ≡ nextSymbol rule n w ⌝ }
 {
-    if !((1 <= rule) & (rule <= 3)) {
-        return Next::NotWeakOrder;
-    }
-    if !in_form(rule, w, n) {
+    if !can_step(rule, w, n) {
         return Next::NotWeakOrder;
     }
     let s = successor(rule, w, n);

@@ -28,10 +28,7 @@ pub extern "C" fn walk(n: usize, rule: u8, window: &[u8], count: u64) -> u32
     ensures { λ r. ⌜ r ≡ walked n rule (padded (take 16 (now (window .entry)))) count ⌝ }
 {
     let w = weak_orders::load(window);
-    if !((1 <= rule) & (rule <= 3)) {
-        return 256;
-    }
-    if !successors::in_form(rule, w, n) {
+    if !successors::can_step(rule, w, n) {
         return 256;
     }
     let v = steps(rule, w, n, count);

@@ -9,7 +9,8 @@ use mir.Syntax.{w8, w16}
 use mir.Val.{Fits, SFits}
 use borrow.Author.Tests.{not-true, not-false}
 use Rattle.weak_orders.proofs.Tests.{says-and, says-lt}
-use Rattle.printing.specs.Printing.{onward, over, pageIn, laidOut, nextPage, steppable}
+use Rattle.successors.specs.NextSymbol.{steppable}
+use Rattle.printing.specs.Printing.{onward, over, pageIn, laidOut, nextPage}
 use Rattle.decimals.proofs.Digits.{says-le}
 use Rattle.printing.proofs.Written.{counts}
 use Rattle.printing.proofs.Filling.{steps-of, of-steps, onward-sized, onward-left, Filling, filled, filling-none, filling-on}
@@ -24,7 +25,7 @@ Inv-loop out₀ now₀ len₀ out now len = Filling now₀ out₀ now len out
 abbrev μ-loop : tie.MeasureT-loop
 μ-loop out₀ now₀ len₀ out now len = now .last - now .done
 
-stepped : (c : tie.Else1 Inv-loop μ-loop) → steppable (c .before .before .before .args .p) ≡ true
+stepped : (c : tie.Else1 Inv-loop μ-loop) → let p = c .before .before .before .before .args .p in steppable (p .rule) (p .n) (p .window) ≡ true
 stepped c = sym (c .before .can-step .ensures) ∙ not-false (c .before .can-step .result) (c .if1 .left)
 
 -- what the loop's test says
@@ -53,7 +54,7 @@ returns c =
 
 loop-holds : tie.Need-loop-holds Inv-loop μ-loop
 loop-holds c =
-    let s = c .before .before .before in
+    let s = c .before .before .before .before in
     let long : length (s .args .p .window) ≡ 16 = search needs in
     filling-none (s .args .p) (s .args .out .now) (steps-of (s .args .p) (stepped c)) long
 

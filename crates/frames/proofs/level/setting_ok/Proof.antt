@@ -1,42 +1,43 @@
 -- `setting_ok` meets its contract: the tests are those of the definition. Assumes nothing.
-use mathlib.Core.Path.{_∙_}
+use mathlib.Core.Bool.{true}
+use mathlib.Core.Path.{_≡_, sym, _∙_}
+use native.Mathlib.Omega.{arith}
 use mir.Facts.{toZ-ofZ}
 use mir.Syntax.{w16, w32}
 use mir.Val.{SFits}
-use borrow.Author.Tests.{le-leb, lt-leb}
+use borrow.Author.Tests.{not-true, not-false}
 use Rattle.weak_orders.specs.Window.{isLength}
+use Rattle.weak_orders.proofs.FormTests.{says-length}
 use Rattle.frames.specs.Level.{settingOk}
 use borrow.Author.Needs.{needs, sfits-of}
 use Rattle.frames.proofs.level.setting_ok.Statement.{statement}
 use Rattle.frames.proofs.level.setting_ok.Tie as tie
 
-returns : tie.Need-returns
-unfolding isLength
-returns c = rw (lt-leb 1 _ (c .if1 .taken))
+is-length-requires : tie.Need-is-length-requires
+is-length-requires c κs = search needs
 
-returns-2 : tie.Need-returns-2
-unfolding isLength
-returns-2 c = rw (le-leb 1 _ (c .before .if1 .left), lt-leb _ 16 (c .if2 .taken))
+passed : (c : tie.Else1) → isLength (c .before .before .args .n) ≡ true
+passed c = sym (c .before .is-length .ensures) ∙ not-false _ (c .if1 .left)
+
+returns : tie.Need-returns
+returns c = rw (sym (c .before .is-length .ensures) ∙ not-true _ (c .if1 .taken))
+
+sub-lowered : tie.Need-sub-lowered
+sub-lowered c = omega (arith, says-length _ .to (passed (c .before)))
 
 cast-lowered : tie.Need-cast-lowered
-cast-lowered c = search needs
+cast-lowered c = record { fits = omega (arith, says-length _ .to (passed (c .before))) }
 
 lowered-requires : tie.Need-lowered-requires
 lowered-requires c κs = search needs
 
-returns-3 : tie.Need-returns-3
-unfolding isLength settingOk
-returns-3 c =
-    let tests = c .before .before in
-    let s = tests .before .before .args .setting in
+returns-2 : tie.Need-returns-2
+unfolding settingOk
+returns-2 c =
+    let s = c .before .before .before .before .args .setting in
     let h : SFits w16 (s .top) = search needs in
     let l : SFits w32 (c .lowered .result) = sfits-of (c .lowered .ok) in
-    simp (
-      le-leb _ _ (tests .before .if1 .left),
-      le-leb _ _ (tests .if2 .left),
-      toZ-ofZ h,
-      toZ-ofZ l ∙ c .lowered .ensures,
-    )
+    simp (passed (c .before .before), toZ-ofZ h, toZ-ofZ l ∙ c .lowered .ensures)
 
 pub setting-ok-spec : {M : Type 1} → statement M
-setting-ok-spec = tie.close (tie.spec returns returns-2 cast-lowered lowered-requires returns-3)
+setting-ok-spec = tie.close (tie.spec is-length-requires returns sub-lowered cast-lowered lowered-requires returns-2)
