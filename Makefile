@@ -16,6 +16,7 @@ run: target/bin/round
 
 target/bin/round: crates.txt $(shell find crates -name '*.rt' -o -name '*.antt')
 	@mkdir -p target
+	@echo "building target/bin/round; what it rests on is proved first, some minutes where nothing is yet" >&2
 	@rt check round >target/round.log 2>&1 || { tail -n 20 target/round.log; exit 1; }
 
 lib: $(LIB)
@@ -24,6 +25,7 @@ lib: $(LIB)
 
 $(LIB): crates.txt $(shell find crates -name '*.rt' -o -name '*.antt')
 	@mkdir -p target
+	@echo "building $(LIB); what it rests on is proved first, some minutes where nothing is yet" >&2
 	@rt staticlib wko >target/staticlib.log 2>&1 || { tail -n 20 target/staticlib.log; exit 1; }
 
 # The README's picture of a round, from what the program prints: one row for each ring of rotations.

@@ -106,13 +106,51 @@ static int height_rule(int rule, uint8_t *w, int n)
     return in_r(w, n, counts, largest, x + 2) ? x + 2 : x + 1;
 }
 
+static int next_symbol(int rule, uint8_t *w, int n)
+{
+    return rule == 1 ? rule1(w, n) : height_rule(rule, w, n);
+}
+
 void baseline_walk(int rule, uint8_t *w, int n, uint64_t steps)
 {
     for (uint64_t k = 0; k < steps; k++) {
-        int s = rule == 1 ? rule1(w, n) : height_rule(rule, w, n);
+        int s = next_symbol(rule, w, n);
         memmove(w, w + 1, (size_t)(n - 1));
         w[n - 1] = (uint8_t)s;
     }
+}
+
+/* A weak order in rank form (rule 1) or in height form. */
+static int in_form(int rule, const uint8_t *w, int n)
+{
+    uint8_t counts[17] = {0};
+    int below = 0;
+    for (int i = 0; i < n; i++) {
+        if (w[i] > 16)
+            return 0;
+        counts[w[i]]++;
+    }
+    for (int v = 0; v <= 16; v++) {
+        if (counts[v] == 0)
+            continue;
+        if (v != (rule == 1 ? below + 1 : below))
+            return 0;
+        below += rule == 1 ? counts[v] : 1;
+    }
+    return 1;
+}
+
+uint32_t baseline_next_symbol(uint64_t n, uint64_t rule, const uint8_t *window, size_t window_len)
+{
+    uint8_t w[16];
+    if (n < 1 || n > 16)
+        return 256 + 6;
+    if (rule < 1 || rule > 3)
+        return 256 + 7;
+    if (window_len != n || !in_form((int)rule, window, (int)n))
+        return 256 + 8;
+    memcpy(w, window, n);
+    return (uint32_t)next_symbol((int)rule, w, (int)n);
 }
 
 /* L(n, k), filled by its recurrence. */

@@ -7,7 +7,7 @@
 
 uint32_t walk(size_t n, uint8_t rule, const uint8_t *window, size_t window_len, uint64_t count);
 
-enum { RUNS = 5, MOST_PLACES = 5000 };
+enum { RUNS = 9, MOST_PLACES = 5000 };
 
 /* The processor time of this process: other work on the machine is left out. */
 static double now(void)
@@ -33,18 +33,22 @@ static void start_window(int rule, int n, uint8_t *w)
         w[i] = (uint8_t)(rule == 1 ? i + 1 : i);
 }
 
-/* The window one step on, by the C call. */
-static void call_step(int rule, int n, uint8_t *w)
+typedef uint32_t next_symbol_call(uint64_t n, uint64_t rule, const uint8_t *window, size_t window_len);
+
+/* So many windows on, by a call that tests all it is given. */
+static void call_steps(next_symbol_call *call, int rule, int n, uint8_t *w, uint64_t count)
 {
-    uint32_t symbol = wko_next_symbol((uint64_t)n, (uint64_t)rule, w, (size_t)n);
-    memmove(w, w + 1, (size_t)(n - 1));
-    w[n - 1] = (uint8_t)symbol;
+    for (uint64_t k = 0; k < count; k++) {
+        uint32_t symbol = call((uint64_t)n, (uint64_t)rule, w, (size_t)n);
+        memmove(w, w + 1, (size_t)(n - 1));
+        w[n - 1] = (uint8_t)symbol;
+    }
 }
 
-/* Steps along the cycle, the best of five runs of each, one after the other in turn. */
+/* Steps along the cycle, the best of nine runs of each, one after the other in turn. */
 static void steps(int rule, int n, uint64_t count)
 {
-    double c = 1e9, ours = 1e9, call = 1e9;
+    double c = 1e9, ours = 1e9, call_c = 1e9, call_ours = 1e9;
     uint8_t w[16], v[16];
     unsigned differ = 0;
     for (int run = 0; run < RUNS; run++) {
@@ -55,14 +59,17 @@ static void steps(int rule, int n, uint64_t count)
         start_window(rule, n, v);
         differ += walk((size_t)n, (uint8_t)rule, v, (size_t)n, count) != w[n - 1];
         t = keep_best(&ours, t);
-        for (uint64_t k = 0; k < count; k++)
-            call_step(rule, n, v);
-        keep_best(&call, t);
+        call_steps(wko_next_symbol, rule, n, v, count);
+        t = keep_best(&call_ours, t);
+        differ += memcmp(v, w, (size_t)n) != 0;
+        start_window(rule, n, v);
+        call_steps(baseline_next_symbol, rule, n, v, count);
+        keep_best(&call_c, t);
         differ += memcmp(v, w, (size_t)n) != 0;
     }
-    printf("rule %d  n = %2d   C %6.1f ns   step %6.1f ns (%.2f of C)   wko_next_symbol %6.1f ns (%.2f of C)%s\n", rule, n,
-           1e9 * c / (double)count, 1e9 * ours / (double)count, ours / c, 1e9 * call / (double)count, call / c,
-           differ ? "   THE ANSWERS DIFFER" : "");
+    printf("rule %d  n = %2d   step: C %6.1f ns, proved %6.1f ns (%.2f of C)   call with its tests: C %6.1f ns, wko_next_symbol %6.1f ns (%.2f of C)%s\n",
+           rule, n, 1e9 * c / (double)count, 1e9 * ours / (double)count, ours / c, 1e9 * call_c / (double)count,
+           1e9 * call_ours / (double)count, call_ours / call_c, differ ? "   THE ANSWERS DIFFER" : "");
 }
 
 /* Sends the step frames 1 to count; gives how many were refused. */
@@ -97,8 +104,7 @@ static void frames(int n, uint64_t count)
         wrong += send_steps(&s, count);
         t = keep_best(&by_frame, t);
         start_window(1, n, w);
-        for (uint64_t k = 1; k <= count; k++)
-            call_step(1, n, w);
+        call_steps(wko_next_symbol, 1, n, w, count);
         keep_best(&by_call, t);
         wrong += memcmp(w, s.window, (size_t)n) != 0;
     }
@@ -153,7 +159,7 @@ static void places(int n, int count)
 
 int main(void)
 {
-    printf("One step along the cycle: plain C without tests; the proved step; the C call with all its tests.\n");
+    printf("One step along the cycle, bare and as a call that tests all it is given.\n");
     for (int rule = 1; rule <= 3; rule++)
         for (int n = 8; n <= 16; n += 4)
             steps(rule, n, 2000000);
