@@ -28,8 +28,10 @@ $(LIB): crates.txt $(shell find crates -name '*.rt' -o -name '*.antt')
 	@echo "building $(LIB); what it rests on is proved first, some minutes where nothing is yet" >&2
 	@rt staticlib wko >target/staticlib.log 2>&1 || { tail -n 20 target/staticlib.log; exit 1; }
 
-# The README's picture of a round, from what the program prints: one row for each ring of rotations.
+# The README's pictures of a round, from what the program prints.
 rings: target/bin/round
+	@target/bin/round <docs/picture/sheet | awk -f docs/picture/steps.awk
+	@echo
 	@target/bin/round <docs/picture/sheet | awk -f docs/picture/rings.awk
 
 # The example bench host of the README.
