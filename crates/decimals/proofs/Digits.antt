@@ -6,17 +6,14 @@ use Prim.Native.Nat.{ℕ, zero, suc, _+_, _-_, _*_, _/_, _%_, _≤_, _<_, _^_}
 use native.Mathlib.Nat.{mod-lt, div-add-mod', mul-add-div-right, mul-add-mod-self-right, div-eq-of-lt, mod-eq-of-lt, mul-le-mul-right}
 use native.Mathlib.Nat.{mul-assoc, pow-succ'}
 use native.Mathlib.Omega.{arith}
-use lib.Dec.{leb, ltb}
+use lib.Dec.{ltb}
 use lib.ListN.{length, take, length-append}
-use borrow.Author.Tests.{lt-ltb, le-ltb, ltb-true, ltb-false, ne-eqb, le-leb, leb-true}
+use borrow.Author.Tests.{lt-ltb, le-ltb, ltb-true, ltb-false, ne-eqb}
 use mathlib.Core.Logic.{_⊎_, _≢_, ⊎-elim}
 use Rattle.weak_orders.specs.Says.{Says}
-use Rattle.weak_orders.proofs.Tests.{by-test, says-and}
+use Rattle.weak_orders.proofs.Tests.{by-test, says-and, says-le}
 use Rattle.decimals.specs.Text.{digits, decimal}
 use Rattle.decimals.specs.Reading.{startsWith, isDigit, run, Digits, none, more, value}
-
-pub says-le : (m n : ℕ) → Says (leb m n) (m ≤ n)
-says-le m n = record { to = leb-true m n; of = le-leb m n }
 
 -- ---- the digits of a number
 

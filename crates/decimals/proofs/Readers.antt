@@ -14,14 +14,14 @@ use lib.Seq.{take-at, drop-at, drop-drop, length-take-le}
 use borrow.Author.Tests.{eq-eqb, ne-eqb, eqb-true}
 use Rattle.weak_orders.specs.Says.{Says}
 use Rattle.weak_orders.proofs.Tests.{_∈_, here, there, nowhere, split-mem, by-test, says-and, says-lt, says-not, says-itself}
-use Rattle.weak_orders.proofs.Tests.{false→not-true}
+use Rattle.weak_orders.proofs.Tests.{says-le, false→not-true}
 use Rattle.frames.specs.Fields.{sameBytes}
 use Rattle.frames.proofs.ByteTests.{says-same-bytes}
 use Rattle.decimals.specs.Text.{decimal, signed, commaed, joined}
 use Rattle.decimals.specs.Reading.{Found, found, missing, Reader, further, next, both, behind, startsWith, closed, ended, isDigit}
 use Rattle.decimals.specs.Reading.{run, Digits, none, more, value, wellWritten, number, positive, negative, signedNumber, commaThen}
 use Rattle.decimals.specs.Reading.{numbers}
-use Rattle.decimals.proofs.Digits.{says-le, decimal-small, decimal-some, decimal-digits, decimal-value, decimal-head}
+use Rattle.decimals.proofs.Digits.{decimal-small, decimal-some, decimal-digits, decimal-value, decimal-head}
 use Rattle.decimals.proofs.Digits.{digits-decimal, run-through, run-digits, run-length}
 
 -- the first k bytes of s are t

@@ -12,7 +12,7 @@ use borrow.Author.Tests.{lt-ltb, le-ltb}
 use Rattle.weak_orders.specs.Window.{isLength}
 use Rattle.weak_orders.proofs.FormTests.{says-length}
 use Rattle.weak_orders.proofs.Padded.{take-padded, length-padded}
-use Rattle.weak_orders.proofs.Tests.{says-and, says-lt}
+use Rattle.weak_orders.proofs.Tests.{says-and, says-lt, says-le}
 use Rattle.successors.specs.NextSymbol.{steppable}
 use Rattle.successors.specs.Rules.{ruleOf, inForm, isRule, step}
 use Rattle.successors.proofs.Steppable.{says-steppable}
@@ -23,7 +23,6 @@ use Rattle.printing.specs.Writing.{written, Wrote}
 use Rattle.printing.specs.Printing.{lineText, stepLine, Printed, onward, lastLine, below, pageOf, over, pageIn, laidOut}
 use Rattle.printing.specs.Printing.{nextPage}
 use Rattle.printing.specs.declared.Printing.{Printing}
-use Rattle.decimals.proofs.Digits.{says-le}
 use Rattle.printing.proofs.Written.{wrote-none, wrote-then, wrote-length}
 
 -- ---- a state that can be stepped

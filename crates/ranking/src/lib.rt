@@ -160,8 +160,8 @@ fn bound(w: [u8; 16], i: usize) -> usize
     b
 }
 
-// For each symbol v below n: the completions of the first i symbols of w with v behind them. Where v is not among them it is one of the
-// heights missing up to the larger of v and their largest, and no longer missing behind them.
+// For each symbol v below n: the completions of the first i symbols of w with v behind them. Where v is not among them it is missing no
+// longer and one more is present; the ways are those in which it occurs again and those in which it does not.
 fn continuations(w: [u8; 16], n: usize, i: usize) -> [u64; 16]
     requires { ⌜ (i < n) × (n ≤ 16) × (bound (take i w) ≤ n) ⌝ }
     ensures { λ r. ⌜ Entries r (completionsWith n (take i w)) n ⌝ }

@@ -11,13 +11,12 @@ use lib.ListN.{length, take, length-map, length-take}
 use lib.Seq.{length-take-le}
 use borrow.Author.Tests.{eq-eqb, ne-eqb}
 use Rattle.weak_orders.specs.Window.{isLength, padded}
-use Rattle.weak_orders.proofs.Tests.{_∈_, by-test, same-test, says-and, says-as, says-eq, says-itself}
+use Rattle.weak_orders.proofs.Tests.{_∈_, same-test, says-and, says-as, says-eq, says-itself, says-le}
 use Rattle.weak_orders.proofs.Lists.{map-cong, map-same}
-use Rattle.weak_orders.proofs.RankForm.{says-rank, rank-le-length}
-use Rattle.weak_orders.proofs.HeightForm.{height-below}
 use Rattle.weak_orders.proofs.Padded.{take-padded}
 use Rattle.weak_orders.proofs.FormTests.{says-length}
 use Rattle.successors.specs.Rules.{inForm, isRule}
+use Rattle.successors.proofs.RuleNumbers.{form-bound}
 use Rattle.refusals.specs.declared.Cause.the-variants.{WindowLength, RuleNumber, NotWeakOrder, LevelSetting, SheetMalformed}
 use Rattle.frames.specs.declared.level.Setting.{Setting}
 use Rattle.frames.specs.Level.{settingOk}
@@ -26,7 +25,6 @@ use Rattle.sheets.specs.Sheet.{RawSheet, parse}
 use Rattle.sheets.specs.Held.{sheetHeld, parsedOf}
 use Rattle.sheets.specs.declared.sheet.Parsed.{Parsed}
 use Rattle.sheets.proofs.SheetTexts.{parse-sound}
-use Rattle.decimals.proofs.Digits.{says-le}
 use Rattle.sheets.specs.Judgement.{settingOf, roundOf, refusal, judged, judgedSheet, judgedText, rawOf, symbolOf}
 
 -- ---- the tests
@@ -61,13 +59,6 @@ module _ (x : RawSheet) where
         good-sheet e setting w p q = rw (e₆, e₇, e₈, e, p, q)
 
 -- ---- the start window
-
--- a symbol of a window in a form is at most its length
-form-bound : (rule : ℕ) (w : List ℕ) → inForm rule w ≡ true → (v : ℕ) → v ∈ w → v ≤ length w
-unfolding inForm
-form-bound rule w e v m = by-test (eqb rule 1)
-    (λ t. rank-le-length w (says-rank w .to (rw t at e)) v m)
-    (λ t. omega (arith, height-below w (rw t at e) v m))
 
 -- narrowing changes no window of at most 16 symbols that was in a form, and makes none
 kept : (w : List ℕ) → ((v : ℕ) → v ∈ w → v ≤ 16) → map symbolOf w ≡ w

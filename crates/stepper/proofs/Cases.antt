@@ -4,18 +4,16 @@ use mathlib.Core.List.{List, _++_}
 use mathlib.Core.Path.{_≡_, refl, sym, ap, _∙_}
 use Prim.Native.Nat.{ℕ, _+_, _-_, _≤_, _<_}
 use native.Mathlib.Omega.{arith}
-use lib.Dec.{leb, eqb}
+use lib.Dec.{leb}
 use lib.ListN.{length, take, drop}
 use lib.Seq.{length-take-le, getD-take, take-length}
 use borrow.Author.Tests.{le-ltb, le-leb, eq-eqb, ne-eqb}
 use Rattle.weak_orders.specs.Window.{different, height, bound, padded}
 use Rattle.weak_orders.proofs.Bits.{different-ones}
-use Rattle.weak_orders.proofs.HeightForm.{height-bound}
-use Rattle.weak_orders.proofs.RankForm.{says-rank, rank-le-length}
 use Rattle.weak_orders.proofs.Symbols.{bound-find}
-use Rattle.weak_orders.proofs.Tests.{by-test}
 use Rattle.ranking.specs.Counts.{a}
 use Rattle.successors.specs.Rules.{inForm}
+use Rattle.successors.proofs.RuleNumbers.{form-bound}
 use Rattle.refusals.specs.declared.Cause.the-variants.{NotBegun, StepNumber, RoundFinished}
 use Rattle.frames.specs.declared.answer.Reply.{Reply}
 use Rattle.frames.specs.declared.answer.Reply.the-variants.{Accepted, Refused}
@@ -116,15 +114,10 @@ same-answer (Accepted symbol level) done d d′ w w′ h = let (e, e′) = h ref
 same-answer (Refused cause) done d d′ w w′ h = refl
 
 -- the symbols of a window of at most 16 in either form are below 32
-form-bound : (rule : ℕ) (w : List ℕ) → length w ≤ 16 → inForm rule w ≡ true → bound w ≤ 32
-unfolding inForm
-form-bound rule w le h = by-test (eqb rule 1)
-    (λ e.
-    let small : ¬ (32 < bound w) = λ lt.
-    let (x, m, big) = bound-find w 32 lt in
-    omega (arith, rank-le-length w (says-rank w .to (rw e at h)) x m) in
-    omega arith)
-    (λ e. omega (arith, height-bound w (rw e at h)))
+low : (rule : ℕ) (w : List ℕ) → length w ≤ 16 → inForm rule w ≡ true → bound w ≤ 32
+low rule w le h =
+    let small : ¬ (32 < bound w) = λ lt. let (x, m, big) = bound-find w 32 lt in omega (arith, form-bound rule w h x m) in
+    omega arith
 
 pub answer-parts : (s : Session) → length (s .window) ≡ 16 → hasBegun s ≡ true →
     (height (take (s .n) (s .window)) 32 ≡ different (take (s .n) (s .window))) × (s .window ≡ padded (take (s .n) (s .window)))
@@ -132,7 +125,7 @@ answer-parts s l t =
     let round = says-begun s .to t .round in
     let w = take (s .n) (s .window) in
     let long = length-take-le (s .n) (s .window) (omega (arith, round .high)) in (
-      different-ones w (form-bound (s .rule) w (omega (arith, round .high)) (round .form)),
+      different-ones w (low (s .rule) w (omega (arith, round .high)) (round .form)),
       sym (padded-take (s .window) (s .n) l (round .high) (round .unused)),
     )
 

@@ -1,12 +1,18 @@
 -- The rule with a number, and the form of its windows. Assumes nothing.
+use mathlib.Core.Bool.{true}
 use mathlib.Core.List.{List}
 use mathlib.Core.Logic.{_≢_}
 use mathlib.Core.Path.{_≡_}
 use Prim.Native.Nat.{ℕ, _≤_}
+use native.Mathlib.Omega.{arith}
+use lib.Dec.{eqb}
+use lib.ListN.{length}
 use borrow.Author.Tests.{eq-eqb, ne-eqb}
 use Rattle.weak_orders.specs.Says.{Says}
 use Rattle.weak_orders.specs.Window.{isRank, isHeight}
-use Rattle.weak_orders.proofs.Tests.{says-le, says-and}
+use Rattle.weak_orders.proofs.HeightForm.{height-below}
+use Rattle.weak_orders.proofs.RankForm.{says-rank, rank-le-length}
+use Rattle.weak_orders.proofs.Tests.{_∈_, by-test, says-le, says-and}
 use Rattle.successors.specs.Rules.{rule1, rule2, rule3, ruleOf, inForm, isRule}
 
 module _ (rule : ℕ) (w : List ℕ) where
@@ -29,6 +35,13 @@ module _ (rule : ℕ) (w : List ℕ) where
   pub is-rule3 : rule ≢ 1 → rule ≢ 2 → ruleOf rule w ≡ rule3 w
   unfolding ruleOf
   is-rule3 ne ne₂ = rw (ne-eqb rule 1 ne, ne-eqb rule 2 ne₂)
+
+-- a symbol of a window in a form is at most its length
+pub form-bound : (rule : ℕ) (w : List ℕ) → inForm rule w ≡ true → (v : ℕ) → v ∈ w → v ≤ length w
+unfolding inForm
+form-bound rule w e v m = by-test (eqb rule 1)
+    (λ t. rank-le-length w (says-rank w .to (rw t at e)) v m)
+    (λ t. omega (arith, height-below w (rw t at e) v m))
 
 -- The rules are numbered 1 to 3.
 pub says-rule : (rule : ℕ) → Says (isRule rule) ((1 ≤ rule) × (rule ≤ 3))

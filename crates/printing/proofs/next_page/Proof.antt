@@ -8,10 +8,9 @@ use lib.ListN.{length, getD}
 use mir.Syntax.{w8, w16}
 use mir.Val.{Fits, SFits}
 use borrow.Author.Tests.{not-true, not-false}
-use Rattle.weak_orders.proofs.Tests.{says-and, says-lt}
+use Rattle.weak_orders.proofs.Tests.{says-and, says-lt, says-le}
 use Rattle.successors.specs.NextSymbol.{steppable}
 use Rattle.printing.specs.Printing.{onward, over, pageIn, laidOut, nextPage}
-use Rattle.decimals.proofs.Digits.{says-le}
 use Rattle.printing.proofs.Written.{counts}
 use Rattle.printing.proofs.Filling.{steps-of, of-steps, onward-sized, onward-left, Filling, filled, filling-none, filling-on}
 use Rattle.printing.proofs.Filling.{filling-over}

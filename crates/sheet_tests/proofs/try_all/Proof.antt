@@ -1,6 +1,5 @@
 -- `try_all`: the marks lie behind one another, so the slices between them are there. Assumes nothing.
 use Prim.Native.Nat.{_+_, _-_, _≤_}
-use native.Mathlib.Omega.{arith}
 use lib.ListN.{length}
 use borrow.Author.Needs.{needs}
 use Rattle.sheet_tests.proofs.try_all.Statement.{statement}
