@@ -2,6 +2,7 @@
 // Rests on sheets for what becomes of a sheet, successors for the steps, frames for levels and ranking for a(n). Writes slices only; the
 // program `round` does the input and output.
 mod writer;
+
 ghost use mathlib.Core.Bool.{true};
 ghost use mathlib.Core.Path.{_≡_};
 ghost use Prim.Native.Nat.{_+_, _≤_, _<_};

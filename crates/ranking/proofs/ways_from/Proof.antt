@@ -75,8 +75,7 @@ loop-less c = search needs
 loop-again : tie.Need-loop-again Inv-loop μ-loop
 loop-again c =
     let a = c .before .before .before .args in
-    let l = c .before .loop in
-    (
+    let l = c .before .loop in (
       search needs,
       next c,
       search needs,

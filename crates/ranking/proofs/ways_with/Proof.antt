@@ -54,8 +54,7 @@ loop-again : tie.Need-loop-again Inv-loop μ-loop
 loop-again c =
     let a = c .before .before .before .before .args in
     let l = c .before .before .loop in
-    let f : ℕ → ℕ = λ i. waysTo (a .rest) i (a .present) in
-    (
+    let f : ℕ → ℕ = λ i. waysTo (a .rest) i (a .present) in (
       search needs,
       search needs,
       entries-more (l .counts) f (l .m) _ (search needs) (c .ways .ensures) (l .inv .2),
