@@ -72,7 +72,7 @@ pub fn next_symbol(rule: u8, w: [u8; 16], n: usize) -> Next
 
 // One step of a window that the caller has tested: the oldest symbol is dropped and the rule's appended.
 pub fn step(rule: u8, w: [u8; 16], n: usize) -> [u8; 16]
-    requires { ⌜ (isLength n ≡ true) × (isRule rule ≡ true) × (inForm rule (take n w) ≡ true) ⌝ }
+    requires { ⌜ steppable rule n w ≡ true ⌝ }
     ensures { λ r. ⌜ r ≡ padded (step (ruleOf rule) (take n w)) ⌝ }
 {
     let s = successor(rule, w, n);

@@ -3,13 +3,14 @@
 ghost use mathlib.Core.Bool.{true};
 ghost use mathlib.Core.Path.{_≡_};
 ghost use lib.ListN.{take};
-ghost use Rattle.weak_orders.specs.Window.{iter, isLength, padded};
-ghost use Rattle.successors.specs.Rules.{ruleOf, inForm, isRule, step};
+ghost use Rattle.weak_orders.specs.Window.{iter, padded};
+ghost use Rattle.successors.specs.NextSymbol.{steppable};
+ghost use Rattle.successors.specs.Rules.{ruleOf, step};
 ghost use Rattle.walk.specs.Walk.{walked};
 
 // The window after a number of steps.
 fn steps(rule: u8, w: [u8; 16], n: usize, count: u64) -> [u8; 16]
-    requires { ⌜ (isLength n ≡ true) × (isRule rule ≡ true) × (inForm rule (take n w) ≡ true) ⌝ }
+    requires { ⌜ steppable rule n w ≡ true ⌝ }
     ensures { λ r. ⌜ take n r ≡ iter (step (ruleOf rule)) count (take n w) ⌝ }
 {
     let mut v = w;

@@ -1,12 +1,11 @@
 -- `onward`: the window stepped, and one more step done. Assumes nothing.
 use Rattle.printing.specs.Printing.{onward}
-use Rattle.printing.proofs.Filling.{steps-of}
 use borrow.Author.Needs.{needs}
 use Rattle.printing.proofs.onward.Statement.{statement}
 use Rattle.printing.proofs.onward.Tie as tie
 
 step-requires : tie.Need-step-requires
-step-requires c κs = let s = steps-of (c .before .args .p) (c .before .pre .0) in (s .sized, s .known, s .formed)
+step-requires c κs = c .before .pre .0
 
 add-q : tie.Need-add-q
 add-q c = search needs

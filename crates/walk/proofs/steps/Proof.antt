@@ -12,6 +12,7 @@ use Rattle.weak_orders.proofs.FormTests.{says-length}
 use Rattle.weak_orders.proofs.Padded.{take-padded, length-padded}
 use Rattle.successors.specs.Rules.{ruleOf, inForm, step}
 use Rattle.successors.proofs.StepForm.{step-length, step-in-form}
+use Rattle.successors.proofs.Steppable.{Steppable, says-steppable}
 use Rattle.walk.proofs.steps.Statement.{statement}
 use Rattle.walk.proofs.steps.Tie as tie
 
@@ -22,12 +23,18 @@ Inv-loop rule n count v₀ i₀ v i =
 abbrev μ-loop : tie.MeasureT-loop
 μ-loop rule n count v₀ i₀ v i = count - i
 
+passed : (c : tie.Start Inv-loop μ-loop) → Steppable (c .args .rule) (c .args .n) (c .args .w)
+passed c = says-steppable (c .args .rule) (c .args .n) (c .args .w) .to (c .pre)
+
 loop-holds : tie.Need-loop-holds Inv-loop μ-loop
 unfolding iter
-loop-holds c = (search needs, search needs, refl, c .pre .2)
+loop-holds c = (search needs, search needs, refl, passed c .1 .1)
 
 step-requires : tie.Need-step-requires Inv-loop μ-loop
-step-requires c κs = (c .before .before .pre .0, c .before .before .pre .1, c .before .loop .inv .3)
+step-requires c κs =
+    let s = c .before .before in
+    let h = passed s in
+    says-steppable (s .args .rule) (s .args .n) (c .before .loop .v) .of (h .0, (h .1 .0, c .before .loop .inv .3))
 
 add-i : tie.Need-add-i Inv-loop μ-loop
 add-i c = search needs
@@ -40,7 +47,7 @@ unfolding iter
 loop-again c =
     let a = c .before .before .before .args in
     let p = c .before .before .loop in
-    let (pos, le) = says-length (a .n) .to (c .before .before .before .pre .0) in
+    let (pos, le) = says-length (a .n) .to (passed (c .before .before .before) .1 .0) in
     let size : length (take (a .n) (p .v)) ≡ a .n = length-take-le (a .n) (p .v) (omega arith) in
     let long = step-length (ruleOf (a .rule)) (take (a .n) (p .v)) (omega arith) ∙ size in
     let e = ap (take (a .n)) (c .step .ensures) ∙ take-padded _ (a .n) long in (

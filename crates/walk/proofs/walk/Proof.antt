@@ -5,7 +5,6 @@ use native.Mathlib.Omega.{arith}
 use borrow.Author.Needs.{needs}
 use borrow.Author.Tests.{not-true, not-false}
 use Rattle.successors.specs.NextSymbol.{steppable}
-use Rattle.successors.proofs.Steppable.{says-steppable}
 use Rattle.walk.proofs.Cases.{stays, sized, walks}
 use Rattle.walk.proofs.walk.Statement.{statement}
 use Rattle.walk.proofs.walk.Tie as tie
@@ -27,10 +26,7 @@ returns c =
     rw (← l .ensures) (stays (a .n) (a .rule) (l .result) (a .count) no)
 
 steps-requires : tie.Need-steps-requires
-steps-requires c κs =
-    let a = c .before .before .before .before .args in
-    let (rule, (length, form)) = says-steppable (a .rule) (a .n) (c .before .before .load .result) .to (passed c) in
-    (length, rule, form)
+steps-requires c κs = passed c
 
 sub-result : tie.Need-sub-result
 sub-result c =
