@@ -8,7 +8,7 @@ use Rattle.refusals.specs.Numbers.{causeNumber}
 use Rattle.frames.specs.declared.answer.Reply.{Reply}
 use Rattle.frames.specs.declared.answer.Reply.the-variants.{Accepted, Refused}
 use Rattle.frames.specs.declared.level.Setting.{Setting}
-use Rattle.frames.specs.Fields.{bytes32, bytes64, bits32}
+use Rattle.frames.specs.Fields.{ascii, bytes32, bytes64, bits32}
 use Rattle.frames.specs.Level.{levelOf}
 
 -- a reply that is no refusal
@@ -23,7 +23,7 @@ replyNumber (Refused cause) = causeNumber cause
 
 -- the letters WKA1
 abbrev pub wka1 : List ℕ
-wka1 = 87 ∷ 75 ∷ 65 ∷ 49 ∷ []
+wka1 = ascii "WKA1"
 
 -- the forty bytes of an answer, where the frame left `done` steps done and the sixteen bytes `window`, with `different` symbols.
 -- Accepted: 0–3 WKA1; 4 zero; 5 symbol; 6 the number of different symbols in the window; 7 zero; 8–15 steps done;

@@ -1,11 +1,18 @@
 -- Bytes of a frame, and the numbers that they stand for (document 01, "Frames": little-endian; offsets count from 0).
 use mathlib.Core.Bool.{Bool, true, false, cond, _&&_}
 use mathlib.Core.List.{List, [], _∷_}
+use Prim.Native.Char.{code}
 use Prim.Native.Nat.{ℕ, _+_, _-_, _*_, _/_, _%_}
+use Prim.Native.String.{String, [] as none, _∷_ as _then_}
 use lib.Dec.{ltb, eqb}
 use lib.IntN.{ℤ, pos, negsuc}
 use lib.ListN.{getD, take, drop}
 use Rattle.weak_orders.specs.Window.{all}
+
+-- the bytes of a text
+abbrev pub ascii : String → List ℕ
+ascii none = []
+ascii (c then s) = code c ∷ ascii s
 
 -- the byte at i, and 0 past the end
 abbrev pub byte : List ℕ → ℕ → ℕ

@@ -3,11 +3,11 @@ use mathlib.Core.Bool.{Bool, _&&_}
 use mathlib.Core.List.{List, [], _∷_}
 use Prim.Native.Nat.{ℕ}
 use Rattle.frames.specs.declared.level.Setting.{Setting}
-use Rattle.frames.specs.Fields.{byte, part, zeros, sameBytes, unsigned16, unsigned64, signed16}
+use Rattle.frames.specs.Fields.{ascii, byte, part, zeros, sameBytes, unsigned16, unsigned64, signed16}
 
 -- 0–3: the letters WKO1
 abbrev pub wko1 : List ℕ
-wko1 = 87 ∷ 75 ∷ 79 ∷ 49 ∷ []
+wko1 = ascii "WKO1"
 
 unfoldable pub isQuestion : List ℕ → Bool
 unfolding part sameBytes

@@ -12,6 +12,7 @@ use Rattle.successors.specs.Rules.{ruleOf, step}
 use Rattle.refusals.specs.Numbers.{causeNumber}
 use Rattle.frames.specs.declared.level.Setting.{Setting}
 use Rattle.frames.specs.Level.{levelOf}
+use Rattle.frames.specs.Fields.{ascii}
 use Rattle.frames.specs.Answer.{newest}
 use Rattle.sheets.specs.declared.judge.Round.{Round}
 use Rattle.sheets.specs.declared.judge.Verdict.{Verdict}
@@ -44,13 +45,11 @@ roundLines r (suc k) = roundLines r k ++ roundLine r (suc k)
 
 -- step symbol level window
 abbrev pub heading : List ℕ
-heading =
-    115 ∷ 116 ∷ 101 ∷ 112 ∷ 32 ∷ 115 ∷ 121 ∷ 109 ∷ 98 ∷ 111 ∷ 108 ∷ 32 ∷ 108 ∷ 101 ∷ 118 ∷ 101 ∷ 108
-    ∷ 32 ∷ 119 ∷ 105 ∷ 110 ∷ 100 ∷ 111 ∷ 119 ∷ 10 ∷ []
+heading = ascii "step symbol level window\n"
 
 -- the line refused
 abbrev pub refusedLine : List ℕ
-refusedLine = 114 ∷ 101 ∷ 102 ∷ 117 ∷ 115 ∷ 101 ∷ 100 ∷ 10 ∷ []
+refusedLine = ascii "refused\n"
 
 unfoldable pub openingText : Verdict → List ℕ
 openingText Accepted = heading

@@ -7,6 +7,7 @@ use Prim.Native.Nat.{ℕ, _≤_}
 use lib.Dec.{leb, eqb}
 use lib.IntN.{ℤ, natAbs}
 use lib.ListN.{length}
+use Rattle.frames.specs.Fields.{ascii}
 use Rattle.decimals.specs.Text.{decimal, signed, joined}
 use Rattle.decimals.specs.Reading.{Found, found, missing, Reader, both, behind, ended, number, signedNumber, numbers}
 
@@ -19,9 +20,7 @@ pub record RawSheet : Type 0 where
 
 -- the first line: n rule top spacing start
 abbrev pub titleLine : List ℕ
-titleLine =
-    110 ∷ 32 ∷ 114 ∷ 117 ∷ 108 ∷ 101 ∷ 32 ∷ 116 ∷ 111 ∷ 112 ∷ 32 ∷ 115 ∷ 112 ∷ 97 ∷ 99 ∷ 105 ∷ 110 ∷ 103
-    ∷ 32 ∷ 115 ∷ 116 ∷ 97 ∷ 114 ∷ 116 ∷ 10 ∷ []
+titleLine = ascii "n rule top spacing start\n"
 
 -- ---- written
 
