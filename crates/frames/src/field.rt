@@ -1,6 +1,6 @@
 // Numbers as bytes, little-endian, and two's complement.
 ghost use mathlib.Core.Path.{_≡_};
-ghost use Rattle.frames.specs.Fields.{signed16, bits32, bytes64};
+ghost use Rattle.frames.specs.Fields.{zeros, signed16, bits32, bytes64};
 
 // The signed number that an unsigned one is in two's complement.
 pub fn signed_of(x: u16) -> i16
@@ -36,4 +36,18 @@ pub fn bytes_of(x: u64) -> [u8; 8]
     b[6] = (x / 281474976710656 % 256) as u8;
     b[7] = (x / 72057594037927936) as u8;
     b
+}
+
+// Every byte of a slice is zero.
+pub fn all_zero(s: &[u8]) -> bool
+    ensures { λ r. ⌜ r ≡ zeros (now (s .entry)) ⌝ }
+{
+    let mut i = 0;
+    while i < s.len() {
+        if s[i] != 0 {
+            return false;
+        }
+        i += 1;
+    }
+    true
 }

@@ -19,14 +19,7 @@ fn zeros_in(f: [u8; 40], from: usize, count: usize) -> bool
     ensures { λ r. ⌜ r ≡ zeros (part f from count) ⌝ }
 {
     let end = from + count;
-    let mut i = from;
-    while i < end {
-        if f[i] != 0 {
-            return false;
-        }
-        i += 1;
-    }
-    true
+    field::all_zero(&f[from..end])
 }
 
 // Test 5 for a begin, a step and a query frame.

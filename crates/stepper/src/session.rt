@@ -31,14 +31,10 @@ pub struct Exchanged {
 fn unused_zero(w: [u8; 16], n: usize) -> bool
     ensures { λ r. ⌜ r ≡ zeros (drop n w) ⌝ }
 {
-    let mut i = n;
-    while i < 16 {
-        if w[i] != 0 {
-            return false;
-        }
-        i += 1;
+    if 16 < n {
+        return true;
     }
-    true
+    frames::field::all_zero(&w[n..])
 }
 
 // Test 8, after test 6.
