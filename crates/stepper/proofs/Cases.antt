@@ -113,14 +113,14 @@ unfolding answerBytes accepted
 same-answer (Accepted symbol level) done d d′ w w′ h = let (e, e′) = h refl in rw (e, e′)
 same-answer (Refused cause) done d d′ w w′ h = refl
 
--- the symbols of a window of at most 16 in either form are below 32
-low : (rule : ℕ) (w : List ℕ) → length w ≤ 16 → inForm rule w ≡ true → bound w ≤ 32
+-- the symbols of a window of at most 16 in either form are below 31
+low : (rule : ℕ) (w : List ℕ) → length w ≤ 16 → inForm rule w ≡ true → bound w ≤ 31
 low rule w le h =
-    let small : ¬ (32 < bound w) = λ lt. let (x, m, big) = bound-find w 32 lt in omega (arith, form-bound rule w h x m) in
+    let small : ¬ (31 < bound w) = λ lt. let (x, m, big) = bound-find w 31 lt in omega (arith, form-bound rule w h x m) in
     omega arith
 
 pub answer-parts : (s : Session) → length (s .window) ≡ 16 → hasBegun s ≡ true →
-    (height (take (s .n) (s .window)) 32 ≡ different (take (s .n) (s .window))) × (s .window ≡ padded (take (s .n) (s .window)))
+    (height (take (s .n) (s .window)) 31 ≡ different (take (s .n) (s .window))) × (s .window ≡ padded (take (s .n) (s .window)))
 answer-parts s l t =
     let round = says-begun s .to t .round in
     let w = take (s .n) (s .window) in

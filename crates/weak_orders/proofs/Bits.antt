@@ -1,16 +1,17 @@
 -- Sets of symbols as bits: bit v is set where v occurs, so the ones below bit k are the different symbols below k. Assumes nothing.
 use mathlib.Core.List.{List, [], _∷_, List·Memᴰ·head}
+use mathlib.Core.Logic.{_≢_}
 use mathlib.Core.Path.{_≡_, refl, sym, ap, ap₂, _∙_}
-use Prim.Native.Nat.{ℕ, zero, suc, _+_, _*_, _/_, _%_, _^_, max, _<_, _≤_}
-use native.Mathlib.Nat.{pow-suc, div-one, div-eq-of-lt, mul-div-mul-right, mod-lt, mod-one, mod-eq-of-lt, one-mul, zero-div}
+use Prim.Native.Nat.{ℕ, zero, suc, _+_, _*_, _/_, _%_, _^_, min, max, _<_, _≤_}
+use native.Mathlib.Nat.{pow-suc, div-one, div-eq-of-lt, mul-div-mul-right, mod-lt, mod-one, one-mul, zero-div}
 use native.Mathlib.Omega.{arith}
 use native.Mathlib.Decide.{decLt, ℕ-discrete}
 use lib.Arith.{digits-mod}
-use lib.Bits.{bitOr, or-step, or-shr, or-lt, shifted-even}
-use lib.Count.{ones, ones-cat}
+use lib.Bits.{bitAnd, bitOr, and-step, or-step, or-shr, or-lt, or-add-and, and-le-l, and-le-r, and-zero-l, and-self, shifted-even}
+use lib.Count.{ones, ones-cat, ones-step, ones-le}
 use lib.Dec.{eqb, eqb·zero-suc, eqb·suc-zero, eqb·suc-suc, lit<}
-use lib.Pow.{pow-pos, pow-lt, mod-pow-add}
-use borrow.Author.Tests.{lt-ltb, le-ltb, eq-eqb, ne-eqb}
+use lib.Pow.{pow-pos, pow-mono, pow-lt, mod-pow-add}
+use borrow.Author.Tests.{eq-eqb, ne-eqb}
 use Rattle.weak_orders.specs.Window.{num, occurs, height, different, bound}
 use Rattle.weak_orders.specs.Tables.{bitOf, bitsOf}
 use Rattle.weak_orders.proofs.Tests.{bit, bit≤1}
@@ -38,11 +39,13 @@ digit-or : (a b u : ℕ) → digit (bitOr a b) u ≡ max (digit a u) (digit b u)
 digit-or a b u = rw (or-shr a b u) (odd-or (a / 2 ^ u) (b / 2 ^ u))
 
 -- the digits of a symbol's bit, and of a set of symbols
-digit-bitOf : (x u : ℕ) → u < 32 → digit (bitOf x) u ≡ bit (eqb u x)
+digit-bitOf : (x u : ℕ) → u < 31 → digit (bitOf x) u ≡ bit (eqb u x)
 unfolding bitOf
-digit-bitOf x u h = elim (decLt x 32) [
-  | yes l ↦ rw (lt-ltb x 32 l) (digit-pow x u)
-  | no l ↦ rw (le-ltb x 32 (omega arith), zero-div (2 ^ u), ne-eqb u x (λ e. omega arith))
+digit-bitOf x u h = elim (decLt x 31) [
+  | yes l ↦ let e : min x 31 ≡ x = omega arith in rw e (digit-pow x u)
+  | no l ↦
+      let e : min x 31 ≡ 31 = omega arith in
+      rw (e, digit-pow 31 u, ne-eqb u 31 (λ e. omega arith), ne-eqb u x (λ e. omega arith))
 ]
 
 occurs-front : (x : ℕ) (l : List ℕ) (u : ℕ) → bit (occurs (x ∷ l) u) ≡ max (bit (eqb u x)) (bit (occurs l u))
@@ -51,7 +54,7 @@ occurs-front x l u = elim (ℕ-discrete u x) [
   | no ne ↦ rw (ne-eqb u x ne, added-front l x .old u ne) (let b = bit≤1 (occurs l u) in omega arith)
 ]
 
-pub digit-bitsOf : (l : List ℕ) (u : ℕ) → u < 32 → bitsOf l / 2 ^ u % 2 ≡ bit (occurs l u)
+pub digit-bitsOf : (l : List ℕ) (u : ℕ) → u < 31 → bitsOf l / 2 ^ u % 2 ≡ bit (occurs l u)
 unfolding bitsOf
 digit-bitsOf [] u h = rw (zero-div (2 ^ u)) (unfold occurs num in refl)
 digit-bitsOf (x ∷ l) u h = digit-or (bitOf x) (bitsOf l) u ∙ ap₂ max (digit-bitOf x u h) (digit-bitsOf l u h) ∙ sym (occurs-front x l u)
@@ -75,7 +78,7 @@ ones-more b k =
     )
 
 -- the ones below bit k are the different symbols below k
-pub ones-height : (l : List ℕ) (k : ℕ) → k ≤ 32 → ones (bitsOf l % 2 ^ k) ≡ height l k
+pub ones-height : (l : List ℕ) (k : ℕ) → k ≤ 31 → ones (bitsOf l % 2 ^ k) ≡ height l k
 ones-height l zero h = rw (mod-one (bitsOf l), height-zero l) (ones-digit 0 (omega arith))
 ones-height l (suc k) h = omega (
   arith,
@@ -85,17 +88,60 @@ ones-height l (suc k) h = omega (
   ones-height l k (omega arith),
 )
 
-pub bitsOf-small : (l : List ℕ) → bitsOf l < 2 ^ 32
-unfolding bitsOf bitOf
-bitsOf-small [] = lit< tt
-bitsOf-small (x ∷ l) = or-lt 32 (bitOf x) (bitsOf l) small (bitsOf-small l)
-  where
-    small : bitOf x < 2 ^ 32
-    small = elim (decLt x 32) [ yes h ↦ rw (lt-ltb x 32 h) (pow-lt h) | no h ↦ rw (le-ltb x 32 (omega arith)) (lit< tt) ]
+-- which are all of them where every symbol is below 31
+pub different-ones : (l : List ℕ) → bound l ≤ 31 → height l 31 ≡ different l
+different-ones l h = different-below l 31 h
 
-pub ones-all : (l : List ℕ) → ones (bitsOf l) ≡ height l 32
-ones-all l = ap ones (sym (mod-eq-of-lt (bitsOf-small l))) ∙ ones-height l 32 (omega arith)
+-- ---- no gap among the bits
 
--- which are all of them where every symbol is below 32
-pub different-ones : (l : List ℕ) → bound l ≤ 32 → height l 32 ≡ different l
-different-ones l h = different-below l 32 h
+-- a union is at least each part
+or-le : (a b : ℕ) → (a ≤ bitOr a b) × (b ≤ bitOr a b)
+or-le a b = omega (arith, or-add-and a b, and-le-l a b, and-le-r a b)
+
+-- the bits of symbols below k are those below bit k
+pub bits-low : (l : List ℕ) (k : ℕ) → k ≤ 31 → bound l ≤ k → bitsOf l < 2 ^ k
+unfolding bound bitsOf bitOf
+bits-low [] k le h = pow-pos k
+bits-low (x ∷ l) k le h = or-lt k (bitOf x) (bitsOf l) (pow-lt (omega arith)) (bits-low l k le (omega arith))
+
+pub low-bits : (l : List ℕ) (k : ℕ) → k ≤ 31 → bitsOf l < 2 ^ k → bound l ≤ k
+unfolding bound bitsOf bitOf
+low-bits [] k le h = omega arith
+low-bits (x ∷ l) k le h =
+    let (a, b) = or-le (bitOf x) (bitsOf l) in
+    let rest = low-bits l k le (omega arith) in
+    elim (decLt x k) [
+      | yes lt ↦ omega arith
+      | no ge ↦ absurd (omega (arith, pow-mono {i = k} {j = min x 31} (omega arith)))
+    ]
+
+-- adding 1 to b clears b's bits just where they are all the bits below some one
+module _ (b : ℕ) where
+  odd : b % 2 ≡ 1 → (bitAnd b (b + 1) ≡ bitAnd (b / 2) (b / 2 + 1) * 2) × (ones b ≡ suc (ones (b / 2)))
+  odd o =
+      let e : (b + 1) / 2 ≡ b / 2 + 1 = omega arith in
+      (rw (← e) (omega (arith, and-step b (b + 1))), omega (arith, ones-step b))
+
+  even : b % 2 ≢ 1 → (b / 2 ≤ bitAnd b (b + 1)) × (ones b ≡ ones (b / 2))
+  even ne =
+      let e : (b + 1) / 2 ≡ b / 2 = omega (arith, ne) in
+      let s : bitAnd (b / 2) ((b + 1) / 2) ≡ b / 2 = rw e (and-self (b / 2)) in
+      (omega (arith, and-step b (b + 1)), omega (arith, ones-step b, ne))
+
+pub cleared : (k b : ℕ) → b < 2 ^ k → bitAnd b (b + 1) ≡ 0 → b < 2 ^ ones b
+cleared zero b h z = omega (arith, pow-pos (ones b))
+cleared (suc k) b h z = elim (ℕ-discrete (b % 2) 1) [
+  | yes o ↦
+      let (a, n) = odd b o in
+      rw n (omega (arith, cleared k (b / 2) (omega (arith, pow-suc 2 k)) (omega arith), pow-suc 2 (ones (b / 2))))
+  | no ne ↦ omega (arith, even b ne, ne, pow-pos (ones b))
+]
+
+pub full : (k b : ℕ) → b < 2 ^ k → ones b ≡ k → bitAnd b (b + 1) ≡ 0
+full zero b h e = let z : b ≡ 0 = omega arith in rw z (and-zero-l 1)
+full (suc k) b h e =
+    let h′ : b / 2 < 2 ^ k = omega (arith, pow-suc 2 k) in
+    elim (ℕ-discrete (b % 2) 1) [
+      | yes o ↦ let (a, n) = odd b o in omega (arith, full k (b / 2) h′ (omega arith))
+      | no ne ↦ absurd (omega (arith, even b ne, ones-le k (b / 2) h′))
+    ]

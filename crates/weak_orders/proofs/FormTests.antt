@@ -1,26 +1,27 @@
--- The two forms by a table of counts. Assumes nothing.
+-- The two forms: ranks by a table of counts, heights by bits. Assumes nothing.
 use mathlib.Core.Bool.{Bool, true, false, not, _&&_}
 use mathlib.Core.List.{List}
-use mathlib.Core.Logic.{_↔_}
-use mathlib.Core.Path.{_≡_, sym, _∙_}
-use Prim.Native.Nat.{ℕ, zero, suc, _+_, _<_, _≤_}
+use mathlib.Core.Path.{_≡_, sym, ap, _∙_}
+use Prim.Native.Nat.{ℕ, zero, suc, _+_, _^_, _<_, _≤_}
+use native.Mathlib.Nat.{mod-eq-of-lt}
 use native.Mathlib.Omega.{arith}
 use native.Mathlib.Numerals.{add-one}
 use native.Mathlib.Decide.{ℕ-discrete, decLt}
-use lib.Dec.{ltb, eqb}
+use lib.Bits.{bitAnd}
+use lib.Count.{ones, ones-le}
+use lib.Dec.{eqb}
 use lib.ListN.{length, take, getD}
 use lib.Seq.{length-take-le}
-use borrow.Author.Tests.{lt-ltb, le-ltb}
 use Rattle.weak_orders.specs.Converted.{isRankWindow, isHeightWindow}
 use Rattle.weak_orders.specs.Says.{Says}
-use Rattle.weak_orders.specs.Tables.{tally, upto, Ranked, Unbroken}
-use Rattle.weak_orders.specs.Window.{below, isRank, isHeight, isLength}
-use Rattle.weak_orders.proofs.HeightForm.{says-height, height-below}
-use Rattle.weak_orders.proofs.Lists.{count-none, count-pos}
+use Rattle.weak_orders.specs.Tables.{tally, upto, Ranked, bitsOf}
+use Rattle.weak_orders.specs.Window.{below, different, bound, isRank, isHeight, isLength}
+use Rattle.weak_orders.proofs.Bits.{ones-height, bits-low, low-bits, cleared, full}
+use Rattle.weak_orders.proofs.HeightForm.{height-form, form-height, height-bound, height-below}
 use Rattle.weak_orders.proofs.RankForm.{says-rank, rank-le-length}
-use Rattle.weak_orders.proofs.Symbols.{num-mem, below-suc, below-zero}
-use Rattle.weak_orders.proofs.Tallies.{tally-num, tally-larger}
-use Rattle.weak_orders.proofs.Tests.{_∈_, false→not-true, says-as, says-itself, same-test, says-eq, says-le, says-and, says-not}
+use Rattle.weak_orders.proofs.Symbols.{num-mem, below-suc, below-zero, below-all, different-below, different≤bound}
+use Rattle.weak_orders.proofs.Tallies.{tally-num}
+use Rattle.weak_orders.proofs.Tests.{_∈_, not-true→false, false→not-true, says-as, says-itself, same-test, says-eq, says-le, says-and, says-not}
 
 -- ---- one turn of each loop
 
@@ -47,39 +48,7 @@ module _ (t : List ℕ) (seen v : ℕ) (e : seen ≡ upto t v) where
   unfolding upto
   upto-more = rw (add-one, ← e)
 
-module _ (t : List ℕ) (v : ℕ) where
-  gap : Says (eqb (getD t v 0) 0 && not (eqb (getD t (v + 1) 0) 0)) ((getD t v 0 ≡ 0) × (¬ (getD t (v + 1) 0 ≡ 0)))
-  gap = says-and (says-eq (getD t v 0) 0) (says-not (says-eq (getD t (v + 1) 0) 0))
-
-  pub unbroken-fails : (n : ℕ) → v < n → (eqb (getD t v 0) 0 && not (eqb (getD t (v + 1) 0) 0)) ≡ true → ¬ Unbroken t n
-  unbroken-fails n lt f h =
-      let (a, b) = gap .to f in
-      let b′ : ¬ (getD t (suc v) 0 ≡ 0) = rw add-one at b in
-      omega (arith, h v lt (omega (arith, b′)))
-
-  pub unbroken-more : (eqb (getD t v 0) 0 && not (eqb (getD t (v + 1) 0) 0)) ≡ false → Unbroken t v → Unbroken t (v + 1)
-  unbroken-more f h k lt pos = elim (decLt k v) [
-    | yes l ↦ h k l pos
-    | no l ↦
-        let q : k ≡ v = omega arith in
-        let pos′ : 0 < getD t (suc v) 0 = rw q at pos in
-        elim (ℕ-discrete (getD t v 0) 0) [
-          | yes s ↦ absurd (false→not-true _ f (gap .of (s, rw add-one (λ z. omega arith))))
-          | no ns ↦ rw q (omega (arith, ns))
-        ]
-  ]
-
 -- ---- the table of a list
-
--- a table has no larger symbols just where each is at most 16
-pub says-low : (u : List ℕ) → (getD (tally u) 17 0 ≡ 0) ↔ ((x : ℕ) → x ∈ u → x ≤ 16)
-says-low u = (
-  λ e x m. elim (decLt 16 x) [
-    | yes lt ↦ absurd (omega (arith, tally-larger u, count-pos (ltb 16) m (lt-ltb 16 x lt)))
-    | no le ↦ omega arith
-  ],
-  λ low. tally-larger u ∙ count-none (ltb 16) u (λ x m. le-ltb 16 x (low x m)),
-)
 
 module _ (u : List ℕ) where
   upto-below : (v : ℕ) → v ≤ 17 → upto (tally u) v ≡ below u v
@@ -93,36 +62,43 @@ module _ (u : List ℕ) where
   of-has : (v : ℕ) → v ≤ 16 → 0 < getD (tally u) v 0 → v ∈ u
   of-has v le p = num-mem u v .0 (omega (arith, tally-num u v le))
 
-  -- the two tests, for lists whose form bounds their symbols
-  pub ranked-rank : {r : Bool} → (isRank u ≡ true → (x : ℕ) → x ∈ u → x ≤ 16) →
-      Says r ((getD (tally u) 17 0 ≡ 0) × Ranked (tally u) 17) → r ≡ isRank u
-  ranked-rank form s = same-test (says-as s
+  -- the symbols of a rank window are at most its length, so the table is read up to there
+  pub ranked-rank : {r : Bool} (n : ℕ) → length u ≡ n → n ≤ 16 → Says r ((upto (tally u) (suc n) ≡ n) × Ranked (tally u) (suc n)) → r ≡ isRank u
+  ranked-rank n l le s = same-test (says-as s
       (λ (z, h) x m.
-      let low = says-low u .0 z x m in
-      omega (arith, low, h x (omega arith) (has x low m), upto-below x (omega arith)))
+      let low = below-all u (suc n) .0 (omega (arith, upto-below (suc n) (omega arith))) x m in
+      omega (arith, h x low (has x (omega arith) m), upto-below x (omega arith)))
       (λ h. (
-        says-low u .1 (form (says-rank u .of h)),
+        omega (arith, upto-below (suc n) (omega arith), below-all u (suc n) .1 (λ x m. omega (arith, rank-le-length u h x m))),
         λ v lt pos. omega (arith, h v (of-has v (omega arith) pos), upto-below v (omega arith)),
       )))
       (says-rank u)
 
-  down : Unbroken (tally u) 16 → (x : ℕ) → x ≤ 16 → 0 < getD (tally u) x 0 → (y : ℕ) → y < x → 0 < getD (tally u) y 0
-  down b zero le pos y lt = absurd (omega arith)
-  down b (suc x) le pos y lt =
-      let p : 0 < getD (tally u) x 0 = b x (omega arith) pos in
-      elim (decLt y x) [ yes l ↦ down b x (omega arith) p y l | no l ↦ let q : y ≡ x = omega arith in rw q p ]
+-- ---- the bits of a list
 
-  pub unbroken-height : {r : Bool} → (isHeight u ≡ true → (x : ℕ) → x ∈ u → x ≤ 16) →
-      Says r ((getD (tally u) 17 0 ≡ 0) × Unbroken (tally u) 16) → r ≡ isHeight u
-  unbroken-height form s = same-test (says-as s
-      (λ (z, b) x m y lt.
-      let low = says-low u .0 z x m in
-      of-has y (omega arith) (down b x low (has x low m) y lt))
-      (λ h. (
-        says-low u .1 (form (says-height u .of h)),
-        λ v lt pos. has v (omega arith) (h (suc v) (of-has (suc v) (omega arith) pos) v (omega arith)),
-      )))
-      (says-height u)
+module _ (u : List ℕ) where
+  -- a symbol of 31 or more
+  pub high-bits : length u ≤ 16 → 2 ^ 31 ≤ bitsOf u → false ≡ isHeight u
+  high-bits l h = sym (not-true→false (isHeight u) (λ t. omega (arith, bits-low u 31 (omega arith) (omega (arith, height-bound u t)))))
+
+  -- else as many different symbols as the largest allows, just where there is no gap
+  module _ (h : bitsOf u < 2 ^ 31) where
+    small : bound u ≤ 31
+    small = low-bits u 31 (omega arith) h
+
+    ones-different : ones (bitsOf u) ≡ different u
+    ones-different = ap ones (sym (mod-eq-of-lt h)) ∙ ones-height u 31 (omega arith) ∙ different-below u 31 small
+
+    pub gap-height : eqb (bitAnd (bitsOf u) (bitsOf u + 1)) 0 ≡ isHeight u
+    gap-height = same-test (says-eq _ 0) (record {
+      to = λ t. full (bound u) (bitsOf u) (bits-low u (bound u) small (omega arith)) (ones-different ∙ height-form u t);
+      of = λ z. form-height u (omega (
+        arith,
+        ones-different,
+        different≤bound u,
+        low-bits u (ones (bitsOf u)) (ones-le 31 (bitsOf u) h) (cleared 31 (bitsOf u) h z),
+      ));
+    })
 
 -- ---- a window in an array
 
@@ -160,12 +136,16 @@ module _ (w : List ℕ) (n : ℕ) (l : length w ≡ 16) where
     unfolding isHeightWindow
     height-as e = rw long e
 
-    module _ (t : List ℕ) (e : t ≡ tally (take n w)) {r : Bool} where
-      pub rank-by-table : Says r ((getD t 17 0 ≡ 0) × Ranked t 17) → r ≡ isRankWindow n w
-      rank-by-table s = rank-as (ranked-rank (take n w) (rank-low w n l h) (rw e at s))
+    module _ (b : ℕ) (e : b ≡ bitsOf (take n w)) where
+      pub height-high : 2 ^ 31 ≤ b → false ≡ isHeightWindow n w
+      height-high g = height-as (high-bits (take n w) (omega (arith, size w n l h)) (rw e at g))
 
-      pub height-by-table : Says r ((getD t 17 0 ≡ 0) × Unbroken t 16) → r ≡ isHeightWindow n w
-      height-by-table s = height-as (unbroken-height (take n w) (λ f x m. omega (arith, height-low w n l h f x m)) (rw e at s))
+      pub height-by-bits : b < 2 ^ 31 → eqb (bitAnd b (b + 1)) 0 ≡ isHeightWindow n w
+      height-by-bits g = height-as (rw e (gap-height (take n w) (rw e at g)))
+
+    module _ (t : List ℕ) (e : t ≡ tally (take n w)) {r : Bool} where
+      pub rank-by-table : Says r ((upto t (suc n) ≡ n) × Ranked t (suc n)) → r ≡ isRankWindow n w
+      rank-by-table s = rank-as (ranked-rank (take n w) n (size w n l h) h (rw e at s))
 
 -- and back: a window that passes the test
 pub of-rank-window : (w : List ℕ) (n : ℕ) → isRankWindow n w ≡ true → (1 ≤ n) × (n ≤ 16) × (isRank (take n w) ≡ true)

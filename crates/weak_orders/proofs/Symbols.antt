@@ -124,6 +124,20 @@ below-flat w u (suc v) le none = elim (decLt v u) [
       omega (arith, below-suc w v, below-flat w u v (omega arith) (λ x m l. omega (arith, none x m l)))
 ]
 
+-- every place holds a smaller symbol just where each symbol is smaller
+pub below-all : (w : List ℕ) (v : ℕ) → (below w v ≡ length w) ↔ ((x : ℕ) → x ∈ w → x < v)
+below-all w v = (
+  λ e x m. elim (decLt x v) [
+    | yes lt ↦ lt
+    | no ge ↦ absurd (omega (arith, below-mono w v x (omega arith), below-suc w x, num-mem w x .1 m, below-le-length w (suc x)))
+  ],
+  full w,
+)
+  where
+    full : (w : List ℕ) → ((x : ℕ) → x ∈ w → x < v) → below w v ≡ length w
+    full [] h = unfold below in refl
+    full (x ∷ w) h = omega (arith, below-less x w v (h x here), full w (λ y m. h y (there m)))
+
 -- what keeps the order of the symbols to x keeps the number below x
 pub below-map : (f : ℕ → ℕ) (w : List ℕ) (x : ℕ) → ((y : ℕ) → y ∈ w → ltb (f y) (f x) ≡ ltb y x) → below (map f w) (f x) ≡ below w x
 unfolding below

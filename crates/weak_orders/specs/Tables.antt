@@ -1,8 +1,7 @@
 -- What the functions on windows are handed and give: tables of counts, and sets of symbols as bits.
-use mathlib.Core.Bool.{cond}
 use mathlib.Core.List.{List, [], _∷_, _++_, map}
 use mathlib.Core.Path.{_≡_}
-use Prim.Native.Nat.{ℕ, zero, suc, _+_, _^_, _<_}
+use Prim.Native.Nat.{ℕ, zero, suc, min, _+_, _^_, _<_}
 use lib.Bits.{bitOr}
 use lib.Dec.{ltb}
 use lib.ListN.{getD}
@@ -22,13 +21,9 @@ upto t (suc v) = upto t v + getD t v 0
 abbrev pub Ranked : List ℕ → ℕ → Type 0
 Ranked t n = (v : ℕ) → v < n → 0 < getD t v 0 → v ≡ suc (upto t v)
 
--- with each symbol the table has the one below it
-abbrev pub Unbroken : List ℕ → ℕ → Type 0
-Unbroken t n = (v : ℕ) → v < n → 0 < getD t (suc v) 0 → 0 < getD t v 0
-
--- a symbol as a bit, and the symbols below 32 of a list as bits
+-- a symbol as a bit, all from 31 on the same, and the symbols of a list as bits
 unfoldable pub bitOf : ℕ → ℕ
-bitOf v = cond (ltb v 32) (2 ^ v) 0
+bitOf v = 2 ^ min v 31
 
 unfoldable pub bitsOf : List ℕ → ℕ
 unfolding bitOf

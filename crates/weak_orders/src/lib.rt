@@ -6,10 +6,10 @@ ghost use mathlib.Core.Path.{_≡_};
 ghost use Prim.Native.Nat.{min, suc, _≤_, _<_, _%_, _^_};
 ghost use lib.Count.{ones};
 ghost use lib.Dec.{ltb};
-ghost use lib.ListN.{getD, take, drop};
+ghost use lib.ListN.{take, drop};
 ghost use Rattle.weak_orders.specs.Says.{Says};
 ghost use Rattle.weak_orders.specs.Window.{below, height, heights, ranks, isLength, padded, shifted};
-ghost use Rattle.weak_orders.specs.Tables.{tally, Ranked, Unbroken, bitOf, bitsOf};
+ghost use Rattle.weak_orders.specs.Tables.{tally, upto, Ranked, bitOf, bitsOf};
 ghost use Rattle.weak_orders.specs.Converted.{isRankWindow, isHeightWindow, rankToHeight, heightToRank};
 
 // A symbol's place in a table of counts: its own up to 16, and 17 for all larger ones.
@@ -41,40 +41,22 @@ pub fn counts(w: [u8; 16], a: usize, n: usize) -> [u8; 18]
     t
 }
 
-// The table has no larger symbols, and each that it has is one more than the number of places below it.
-fn ranked(t: [u8; 18]) -> bool
-    ensures { λ r. ⌜ Says r ((getD t 17 0 ≡ 0) × Ranked t 17) ⌝ }
+// Each symbol up to n that the table has is one more than the number of places below it, and no other place is left. The test is of
+// one entry after another, since which of them are 0 is hard to foresee.
+fn ranked(t: [u8; 18], n: usize) -> bool
+    requires { ⌜ n ≤ 16 ⌝ }
+    ensures { λ r. ⌜ Says r ((upto t (suc n) ≡ n) × Ranked t (suc n)) ⌝ }
 {
-    if t[17] != 0 {
-        return false;
-    }
     let mut seen: usize = 0;
     let mut v = 0;
-    while v < 17 {
+    while v <= n {
         if (t[v] != 0) & (v != seen + 1) {
             return false;
         }
         seen += t[v] as usize;
         v += 1;
     }
-    true
-}
-
-// The table has no larger symbols, and with each symbol it has the one below it.
-fn unbroken(t: [u8; 18]) -> bool
-    ensures { λ r. ⌜ Says r ((getD t 17 0 ≡ 0) × Unbroken t 16) ⌝ }
-{
-    if t[17] != 0 {
-        return false;
-    }
-    let mut v = 0;
-    while v < 16 {
-        if (t[v] == 0) & (t[v + 1] != 0) {
-            return false;
-        }
-        v += 1;
-    }
-    true
+    seen == n
 }
 
 // Test 6 of document 01: n is 1 to 16.
@@ -91,17 +73,22 @@ pub fn is_rank(w: [u8; 16], n: usize) -> bool
     if !is_length(n) {
         return false;
     }
-    ranked(counts(w, 0, n))
+    ranked(counts(w, 0, n), n)
 }
 
-// The first n symbols are a weak order of n in height form.
+// The first n symbols are a weak order of n in height form: none is 31 or more, and as bits they have no gap, so that adding 1 clears
+// them all.
 pub fn is_height(w: [u8; 16], n: usize) -> bool
     ensures { λ r. ⌜ r ≡ isHeightWindow n w ⌝ }
 {
     if !is_length(n) {
         return false;
     }
-    unbroken(counts(w, 0, n))
+    let bits = present(w, n);
+    if 2147483648 <= bits {
+        return false;
+    }
+    (bits & (bits + 1)) == 0
 }
 
 // The first sixteen bytes of a slice as a window, with zeros behind.
@@ -135,11 +122,11 @@ pub fn shift(w: [u8; 16], n: usize, s: u8) -> [u8; 16]
     v
 }
 
-// A symbol below 32 as a bit; a larger one has none.
+// A symbol as a bit; all from 31 on share the bit 31.
 fn bit_of(v: u8) -> u32
     ensures { λ r. ⌜ r ≡ bitOf v ⌝ }
 {
-    if v < 32 { 1u32 << v } else { 0 }
+    if v < 31 { 1u32 << v } else { 2147483648 }
 }
 
 // The symbols among the first n, each a bit.
@@ -155,11 +142,11 @@ pub fn present(w: [u8; 16], n: usize) -> u32
     bits
 }
 
-// How many different symbols below 32 are among the first n: all of them, in either form.
+// How many different symbols below 31 are among the first n: all of them, in either form.
 pub fn different(w: [u8; 16], n: usize) -> u32
-    ensures { λ r. ⌜ r ≡ height (take n w) 32 ⌝ }
+    ensures { λ r. ⌜ r ≡ height (take n w) 31 ⌝ }
 {
-    u32::count_ones(present(w, n))
+    u32::count_ones(present(w, n) % 2147483648)
 }
 
 // The height of a symbol: how many of the symbols present are smaller.

@@ -28,7 +28,7 @@ abbrev μ-loop : tie.MeasureT-loop
 symbols : (s : tie.After-different Inv-loop μ-loop) → s .different .result ≡ different (take (s .before .args .i) (s .before .args .w))
 symbols s =
     let p = take (s .before .args .i) (s .before .args .w) in
-    s .different .ensures ∙ different-below p 32 (omega (arith, s .before .pre .1, s .before .pre .2))
+    s .different .ensures ∙ different-below p 31 (omega (arith, s .before .pre .1, s .before .pre .2))
 
 long : (s : tie.Start Inv-loop μ-loop) → length (take (s .args .i) (s .args .w)) ≡ s .args .i
 long s = let l : length (s .args .w) ≡ 16 = search needs in omega (arith, length-take (s .args .i) (s .args .w))

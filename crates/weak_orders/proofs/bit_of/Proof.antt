@@ -1,9 +1,8 @@
 -- `bit_of`: a shift of 1 is the power of two. Assumes nothing.
-use mathlib.Core.Path.{_∙_}
-use Prim.Native.Nat.{_^_}
+use mathlib.Core.Path.{_≡_, _∙_}
+use Prim.Native.Nat.{min, _^_}
 use native.Mathlib.Nat.{one-mul}
 use native.Mathlib.Omega.{arith}
-use borrow.Author.Tests.{lt-ltb, le-ltb}
 use lib.Dec.{lit<}
 use lib.Pow.{shl-exact}
 use Rattle.weak_orders.specs.Tables.{bitOf}
@@ -18,11 +17,12 @@ returns : tie.Need-returns
 unfolding bitOf
 returns c =
     let v = c .before .args .v in
-    rw (lt-ltb v 32 (c .if1 .taken)) (shl-exact {a = 1} 1 v 32 (lit< tt) (omega arith) ∙ one-mul (2 ^ v))
+    let e : min v 31 ≡ v = omega arith in
+    rw e (shl-exact {a = 1} 1 v 32 (lit< tt) (omega arith) ∙ one-mul (2 ^ v))
 
 returns-2 : tie.Need-returns-2
 unfolding bitOf
-returns-2 c = rw (le-ltb (c .before .args .v) 32 (c .if1 .left))
+returns-2 c = let e : min (c .before .args .v) 31 ≡ 31 = omega arith in rw e
 
 pub bit-of-spec : {M : Type 1} → statement M
 bit-of-spec = tie.close (tie.spec shl-result returns returns-2)

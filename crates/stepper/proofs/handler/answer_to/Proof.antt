@@ -16,7 +16,7 @@ different-requires c κs = search needs
 cast-different : tie.Need-cast-different
 cast-different c =
     let s = c .before .before .before .args .x .session in
-    let le : c .different .result ≤ 32 = rw (c .different .ensures) (height-le (take (s .n) (s .window)) 32) in
+    let le : c .different .result ≤ 31 = rw (c .different .ensures) (height-le (take (s .n) (s .window)) 31) in
     record { fits = omega arith }
 
 answer-bytes-requires : tie.Need-answer-bytes-requires
