@@ -10,7 +10,7 @@ use lib.Seq.{length-take-le, getD-append-add, getD-drop, getD-take, drop-cons, d
 use Rattle.weak_orders.specs.Order.{lexLt}
 use Rattle.weak_orders.specs.Rotation.{rotation}
 use Rattle.weak_orders.proofs.Orders.{lexLt-nil, lexLt-less, lexLt-greater, lexLt-equal}
-use Rattle.weak_orders.proofs.Rotations.{turned-rotation, length-ring}
+use Rattle.weak_orders.proofs.Rotations.{turned-rotation, length-rotated}
 
 -- the rotation from i of the first n symbols
 module _ (w : List ℕ) (n i : ℕ) (le : n ≤ length w) (lt : i < n) where
@@ -21,7 +21,7 @@ module _ (w : List ℕ) (n i : ℕ) (le : n ≤ length w) (lt : i < n) where
   length-front = length-drop i (take n w) ∙ ap (λ (m : ℕ). m - i) length-window
 
   pub rotation-length : length (rotation (take n w) i) ≡ n
-  rotation-length = length-ring (turned-rotation (take n w) i) ∙ length-window
+  rotation-length = length-rotated (turned-rotation (take n w) i) ∙ length-window
 
   -- its symbols are those from i on, and then those before i
   pub rotation-on : (k : ℕ) → i + k < n → getD w (i + k) 0 ≡ getD (rotation (take n w) i) k 0

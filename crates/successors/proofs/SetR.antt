@@ -70,6 +70,6 @@ R-near x y b r s lt = elim (ℕ-discrete (suc x) y) [
       split-mem sym (λ m′. absurd (omega (arith, R-first x b r (suc x) (there m′)))) m
 ]
 
--- A ring has at most one window in R.
+-- A rotation class has at most one window in R.
 pub R-one : (x : ℕ) (b : List ℕ) (y : ℕ) (c : List ℕ) → R (x ∷ b) → R (y ∷ c) → x ∷ b ⟳ y ∷ c → y ∷ c ≡ x ∷ b
 R-one x b y c r s t = lex-antisymm (y ∷ c) (x ∷ b) (R-greatest x b (y ∷ c) r t) (R-greatest y c (x ∷ b) s (⟳-sym t))

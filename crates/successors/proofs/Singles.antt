@@ -9,7 +9,7 @@ use borrow.Author.Tests.{lt-ltb, le-ltb}
 use Rattle.weak_orders.specs.Says.{Says}
 use Rattle.weak_orders.specs.Window.{num}
 use Rattle.weak_orders.proofs.RankForm.{Rank, rank-gap, rank-one, rank-replace}
-use Rattle.weak_orders.proofs.Rotations.{_⟳_, num-ring, mem-ring}
+use Rattle.weak_orders.proofs.Rotations.{_⟳_, num-rotated, mem-rotated}
 use Rattle.weak_orders.proofs.Symbols.{num-same, num-other, num-mem, below-less, below-more, below-suc, below-flat}
 use Rattle.weak_orders.proofs.Tests.{_∈_, here, there, nowhere, split-mem, says-eq, says-or, says-all}
 use Rattle.successors.specs.Rules.{single, isPlain, largestBelow}
@@ -29,11 +29,11 @@ pub says-plain : (w : List ℕ) → Says (isPlain w) (Plain w)
 unfolding isPlain
 says-plain w = says-all (says-single w) w
 
-pub single-ring : {w v : List ℕ} → w ⟳ v → (x : ℕ) → Single w x → Single v x
-single-ring c x s = ⊎-elim inl (λ e. inr (num-ring c x ∙ e)) s
+pub single-rotated : {w v : List ℕ} → w ⟳ v → (x : ℕ) → Single w x → Single v x
+single-rotated c x s = ⊎-elim inl (λ e. inr (num-rotated c x ∙ e)) s
 
-pub plain-ring : {w v : List ℕ} → w ⟳ v → Plain w → Plain v
-plain-ring c h x m = single-ring c x (h x (mem-ring c x m))
+pub plain-rotated : {w v : List ℕ} → w ⟳ v → Plain w → Plain v
+plain-rotated c h x m = single-rotated c x (h x (mem-rotated c x m))
 
 -- The largest symbol below v: no symbol below v is larger, and it is one where it is not 0.
 largest-step : (x : ℕ) (b : List ℕ) (v : ℕ) →

@@ -7,9 +7,9 @@ use native.Mathlib.Omega.{arith}
 use native.Mathlib.Decide.{ℕ-discrete}
 use lib.ListN.{length}
 use Rattle.weak_orders.specs.Window.{isRank, isHeight, shifted}
-use Rattle.weak_orders.proofs.HeightForm.{height-ring}
-use Rattle.weak_orders.proofs.RankForm.{says-rank, rank-ring}
-use Rattle.weak_orders.proofs.Rotations.{turned, length-ring}
+use Rattle.weak_orders.proofs.HeightForm.{height-rotated}
+use Rattle.weak_orders.proofs.RankForm.{says-rank, rank-rotated}
+use Rattle.weak_orders.proofs.Rotations.{turned, length-rotated}
 use Rattle.successors.specs.Rules.{rule1, rule2, rule3, ruleOf, inForm, step}
 use Rattle.successors.proofs.FirstSymbol.{change, turn-change, length-change}
 use Rattle.successors.proofs.Rule1.{rank-change}
@@ -17,16 +17,16 @@ use Rattle.successors.proofs.RuleNumbers.{form-rank, form-height, is-ru
 use Rattle.successors.proofs.Rules23.{Moves, moves2, moves3, height-change}
 
 pub step-length : (rule : List ℕ → ℕ) (w : List ℕ) → 0 < length w → length (step rule w) ≡ length w
-step-length rule w lt = rw (← turn-change rule w lt) (length-ring turned ∙ length-change rule w)
+step-length rule w lt = rw (← turn-change rule w lt) (length-rotated turned ∙ length-change rule w)
 
 rank-step : (x : ℕ) (b : List ℕ) → isRank (x ∷ b) ≡ true → isRank (step rule1 (x ∷ b)) ≡ true
 unfolding change
 rank-step x b h =
-    rw (← turn-change rule1 (x ∷ b) (omega arith)) (says-rank _ .of (rank-ring turned (rank-change x b (says-rank (x ∷ b) .to h))))
+    rw (← turn-change rule1 (x ∷ b) (omega arith)) (says-rank _ .of (rank-rotated turned (rank-change x b (says-rank (x ∷ b) .to h))))
 
 height-step : {rule : List ℕ → ℕ} → Moves rule → (x : ℕ) (b : List ℕ) → isHeight (x ∷ b) ≡ true → isHeight (step rule (x ∷ b)) ≡ true
 unfolding change
-height-step {rule} moves x b h = rw (← turn-change rule (x ∷ b) (omega arith)) (height-ring turned (height-change moves x b h))
+height-step {rule} moves x b h = rw (← turn-change rule (x ∷ b) (omega arith)) (height-rotated turned (height-change moves x b h))
 
 -- rules that agree on a window make the same step
 step-same : (f g : List ℕ → ℕ) (w : List ℕ) → f w ≡ g w → step f w ≡ step g w

@@ -1,4 +1,4 @@
--- Rings joined into one cycle: ρ rotates, τ leads from ring to ring, and ρ after τ goes through them all. Assumes nothing.
+-- Rotation classes joined into one cycle: ρ rotates, τ leads from class to class, and ρ after τ goes through them all. Assumes nothing.
 use Prim.Native.Nat.{ℕ, zero, suc, _+_, _≤_, _<_}
 use native.Mathlib.Omega.{arith}
 use mathlib.Core.Path.{_≡_, refl, sym, ap, _∙_}
@@ -18,7 +18,7 @@ pub data Leads {A : Type 0} (τ : A → A) (Exit : A → Type 0) (x : A) : A →
   first : {y : A} → y ≡ τ x → Exit y → Leads τ Exit x y
   next : {y z : A} → Leads τ Exit x y → z ≡ τ y → Exit z → Leads τ Exit x z
 
--- The rings of `P` hang below that of `root`, each by its one exit.
+-- The rotation classes of `P` hang below that of `root`, each by its one exit.
 pub record Joined {A : Type 0} (P : A → Type 0) (ρ τ : A → A) (depth : A → ℕ) (Exit : A → Type 0) (root : A) : Type 0 where
   pub root-in : P root
   pub ρ-in : (w : A) → P w → P (ρ w)
@@ -37,11 +37,11 @@ module _ {A : Type 0} {P : A → Type 0} {ρ τ : A → A} {depth : A → ℕ} {
   abbrev σ : A → A
   σ w = ρ (τ w)
 
-  -- At the depth `d`, whatever is no exit comes to its neighbour in the ring.
+  -- At the depth `d`, whatever is no exit comes to its neighbour in its class.
   abbrev Onward : ℕ → Type 0
   Onward d = (w : A) → P w → depth w ≡ d → ¬ Exit w → σ w ⇝⟨ σ ⟩ ρ w
 
-  -- Then the ring of `u` is walked from `u`, if at most its last is an exit.
+  -- Then the class of `u` is walked from `u`, if at most its last is an exit.
   walk : {u v : A} → P u → Onward (depth u) → ((z : A) → u ⇝⟨ ρ ⟩ z → Exit z → ρ z ≡ u) → u ⇝⟨ ρ ⟩ v → u ⇝⟨ σ ⟩ v
   walk {u} p onward last c = along Q next c (p, refl, stay refl, stay refl) .3
     where
@@ -56,12 +56,12 @@ module _ {A : Type 0} {P : A → Type 0} {ρ τ : A → A} {depth : A → ℕ} {
         elim (J .exit? z p) [ yes x ↦ stay (sym (last z c x)) | no x ↦ d ⨟ first-step (onward z p e x) ],
       )
 
-  -- So is every ring from behind its exit.
+  -- So is every class from behind its exit.
   lap : {y v : A} → P y → Exit y → Onward (depth y) → y ⇝⟨ ρ ⟩ v → ρ y ⇝⟨ σ ⟩ v
   lap {y} p x onward c =
       walk (J .ρ-in y p) (rw (J .level y p) onward) (λ z d x′. ap ρ (J .one-exit p x (first-step d) x′)) (J .round y p ⨟ c)
 
-  -- A way home to `w` is followed, once the deeper rings are walked.
+  -- A way home to `w` is followed, once the deeper classes are walked.
   follow : {w y : A} → ((d : ℕ) → depth w < d → Onward d) → P y → Home τ depth Exit w y → ρ y ⇝⟨ σ ⟩ ρ w
   follow deeper p (home e) = stay (ap ρ e)
   follow deeper p (via y x lt h) = lap p x (deeper _ lt) (stay refl) ⨟ first-step (follow deeper (J .τ-in y p) h)
@@ -74,7 +74,7 @@ module _ {A : Type 0} {P : A → Type 0} {ρ τ : A → A} {depth : A → ℕ} {
   onwards : (d : ℕ) → Onward d
   onwards d = onward (suc (J .deepest)) d (omega arith)
 
-  -- What comes to `x` comes to the ring of each exit that `x` leads to.
+  -- What comes to `x` comes to the class of each exit that `x` leads to.
   enter : {u x y : A} → P x → u ⇝⟨ σ ⟩ x → Leads τ Exit x y → P y × Exit y × (u ⇝⟨ σ ⟩ ρ y)
   enter p c (first e ex) = (rw e (J .τ-in _ p), ex, rw e (on c))
   enter p c (next l e ex) =
@@ -94,7 +94,7 @@ module _ {A : Type 0} {P : A → Type 0} {ρ τ : A → A} {depth : A → ℕ} {
   pub reach : (w : A) → P w → root ⇝⟨ σ ⟩ w
   reach w p = arrive (suc (depth w)) w p (omega arith)
 
-  -- And back to itself, by way of the last of its ring.
+  -- And back to itself, by way of the last of its class.
   return : σ root ⇝⟨ σ ⟩ root
   return =
       let (w, c, e) = last-step (J .round root (J .root-in)) in

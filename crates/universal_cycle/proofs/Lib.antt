@@ -2,7 +2,7 @@ pub mod Pigeonhole
 pub mod Tours
 pub mod Joined
 pub mod Agreeing
-pub mod Rings1
-pub mod Rings23
+pub mod RotationClasses1
+pub mod RotationClasses23
 pub mod Rounds
 pub mod Examples

@@ -20,8 +20,8 @@ use Rattle.successors.proofs.StepForm.{step-length, step-in-form}
 use Rattle.universal_cycle.specs.Round.{Tour, WeakOrder, UniversalCycle}
 use Rattle.universal_cycle.proofs.Agreeing.{same-tour}
 use Rattle.universal_cycle.proofs.Joined.{Joined, one-cycle}
-use Rattle.universal_cycle.proofs.Rings1.{joined1}
-use Rattle.universal_cycle.proofs.Rings23.{joined, joined2, joined3}
+use Rattle.universal_cycle.proofs.RotationClasses1.{joined1}
+use Rattle.universal_cycle.proofs.RotationClasses23.{joined, joined2, joined3}
 
 -- A step is the rule's change of the first symbol and a rotation by one, so what the two join is one cycle of steps.
 steps : (rule : List ℕ → ℕ) {P : List ℕ → Type 0} {depth : List ℕ → ℕ} {Exit : List ℕ → Type 0} {root : List ℕ} →

@@ -1,5 +1,5 @@
--- The rotations of a window: what a rotation keeps, and the least and the greatest of them. Document 01 calls all rotations of one
--- window its ring. Assumes nothing.
+-- The rotations of a window: what a rotation keeps, and the least and the greatest of them. All rotations of one window are its rotation
+-- class; the papers call it a ring. Assumes nothing.
 use mathlib.Core.Bool.{Bool, true}
 use mathlib.Core.List.{List, [], _∷_, _++_, append-assoc, append-nil, List·Memᴰ·head, Memᴰ·append-right, head-eq-of-cons-eq}
 use mathlib.Core.List.{tail-eq-of-cons-eq}
@@ -70,34 +70,34 @@ front-once x b d once c = at (split x b c)
     at (parts (z ∷ p) y q e e′) =
         absurd (once (rw (tail-eq-of-cons-eq e) (Memᴰ·append-right p (List·Memᴰ·head (head-eq-of-cons-eq e′)))))
 
--- What does not change when the two parts of a window change places is the same for the whole ring.
-pub ring-keeps : {B : Type 0} (f : List ℕ → B) → ((p q : List ℕ) → f (p ++ q) ≡ f (q ++ p)) → {w v : List ℕ} → w ⟳ v → f v ≡ f w
+-- What does not change when the two parts of a window change places is the same for the whole rotation class.
+pub rotation-keeps : {B : Type 0} (f : List ℕ → B) → ((p q : List ℕ) → f (p ++ q) ≡ f (q ++ p)) → {w v : List ℕ} → w ⟳ v → f v ≡ f w
 unfolding turn
-ring-keeps f h {w} c = along (λ v. f v ≡ f w) (λ v e. turned v ∙ e) c refl
+rotation-keeps f h {w} c = along (λ v. f v ≡ f w) (λ v e. turned v ∙ e) c refl
   where
     turned : (v : List ℕ) → f (turn v) ≡ f v
     turned [] = refl
     turned (x ∷ b) = h b (x ∷ [])
 
-pub length-ring : {w v : List ℕ} → w ⟳ v → length v ≡ length w
-length-ring = ring-keeps length (λ p q. omega (arith, length-append p q, length-append q p))
+pub length-rotated : {w v : List ℕ} → w ⟳ v → length v ≡ length w
+length-rotated = rotation-keeps length (λ p q. omega (arith, length-append p q, length-append q p))
 
-pub count-ring : (f : ℕ → Bool) {w v : List ℕ} → w ⟳ v → count f v ≡ count f w
-count-ring f = ring-keeps (count f) (λ p q. omega (arith, count-append f p q, count-append f q p))
+pub count-rotated : (f : ℕ → Bool) {w v : List ℕ} → w ⟳ v → count f v ≡ count f w
+count-rotated f = rotation-keeps (count f) (λ p q. omega (arith, count-append f p q, count-append f q p))
 
-pub num-ring : {w v : List ℕ} → w ⟳ v → (x : ℕ) → num v x ≡ num w x
+pub num-rotated : {w v : List ℕ} → w ⟳ v → (x : ℕ) → num v x ≡ num w x
 unfolding num
-num-ring c x = count-ring _ c
+num-rotated c x = count-rotated _ c
 
-pub below-ring : {w v : List ℕ} → w ⟳ v → (x : ℕ) → below v x ≡ below w x
+pub below-rotated : {w v : List ℕ} → w ⟳ v → (x : ℕ) → below v x ≡ below w x
 unfolding below
-below-ring c x = count-ring _ c
+below-rotated c x = count-rotated _ c
 
-pub total-ring : (f : ℕ → ℕ) {w v : List ℕ} → w ⟳ v → total f v ≡ total f w
-total-ring f = ring-keeps (total f) (λ p q. omega (arith, total-append f p q, total-append f q p))
+pub total-rotated : (f : ℕ → ℕ) {w v : List ℕ} → w ⟳ v → total f v ≡ total f w
+total-rotated f = rotation-keeps (total f) (λ p q. omega (arith, total-append f p q, total-append f q p))
 
-pub mem-ring : {w v : List ℕ} → w ⟳ v → (x : ℕ) → x ∈ v → x ∈ w
-mem-ring {w} {v} c x m = num-mem w x .0 (omega (arith, num-ring c x, num-mem v x .1 m))
+pub mem-rotated : {w v : List ℕ} → w ⟳ v → (x : ℕ) → x ∈ v → x ∈ w
+mem-rotated {w} {v} c x m = num-mem w x .0 (omega (arith, num-rotated c x, num-mem v x .1 m))
 
 -- Each symbol comes first in some rotation.
 pub to-front : (w : List ℕ) (y : ℕ) → y ∈ w → (b : List ℕ) × (w ⟳ y ∷ b)
@@ -110,7 +110,7 @@ to-front w y m = let (p, q, e) = cut w y m in (q ++ p, stay e ⨟ swing p (y ∷
         (λ m′. let (p, q, e) = cut b y m′ in (x ∷ p, q, ap (λ l. x ∷ l) e))
         m
 
--- The rotations that the definitions list are the ring.
+-- The rotations that the definitions list are the rotation class.
 pub turned-rotation : (w : List ℕ) (i : ℕ) → w ⟳ rotation w i
 unfolding rotation
 turned-rotation w i = stay (sym (take-append-drop i w)) ⨟ swing (take i w) (drop i w)
@@ -136,20 +136,20 @@ mem-rotations x b v = (
   λ c. let (j, lt, e) = index-of x b c in Memᴰ·cast (sym e) (Memᴰ·map (rotation (x ∷ b)) (in-range (length (x ∷ b)) j lt)),
 )
 
--- So what all of them are tested for is true of the ring.
-says-ring : {p : List ℕ → Bool} {A : List ℕ → Type 0} → ((v : List ℕ) → Says (p v) (A v)) →
+-- So what all of them are tested for is true of the class.
+says-rotations : {p : List ℕ → Bool} {A : List ℕ → Type 0} → ((v : List ℕ) → Says (p v) (A v)) →
     (x : ℕ) (b : List ℕ) → Says (all p (rotations (x ∷ b))) ((v : List ℕ) → x ∷ b ⟳ v → A v)
-says-ring s x b = says-as (says-all s (rotations (x ∷ b))) (λ h v c. h v (mem-rotations x b v .1 c)) (λ h v m. h v (mem-rotations x b v .0 m))
+says-rotations s x b = says-as (says-all s (rotations (x ∷ b))) (λ h v c. h v (mem-rotations x b v .1 c)) (λ h v m. h v (mem-rotations x b v .0 m))
 
 pub says-least : (x : ℕ) (b u : List ℕ) → Says (isLeast (x ∷ b) u) ((v : List ℕ) → x ∷ b ⟳ v → lexLe u v ≡ true)
 unfolding isLeast
-says-least x b u = says-ring (λ v. says-itself (lexLe u v)) x b
+says-least x b u = says-rotations (λ v. says-itself (lexLe u v)) x b
 
 pub says-greatest : (x : ℕ) (b u : List ℕ) → Says (isGreatest (x ∷ b) u) ((v : List ℕ) → x ∷ b ⟳ v → lexLe v u ≡ true)
 unfolding isGreatest
-says-greatest x b u = says-ring (λ v. says-itself (lexLe v u)) x b
+says-greatest x b u = says-rotations (λ v. says-itself (lexLe v u)) x b
 
--- Each ring has a least and a greatest rotation.
+-- Each rotation class has a least and a greatest rotation.
 extreme : (le : List ℕ → List ℕ → Type 0) → ((u v : List ℕ) → le u v ⊎ le v u) →
     ((u v w : List ℕ) → le u v → le v w → le u w) →
     (x : ℕ) (b : List ℕ) → (m : List ℕ) × (x ∷ b ⟳ m) × ((v : List ℕ) → x ∷ b ⟳ v → le m v)
@@ -229,5 +229,5 @@ full-turn w = iter-turn (length w) w (omega arith) ∙ rw (drop-length, take-len
 pub rotation-rotation : (w : List ℕ) (i j : ℕ) → j + i ≤ length w → rotation (rotation w i) j ≡ rotation w (j + i)
 rotation-rotation w i j le =
     let e : iter turn i w ≡ rotation w i = iter-turn i w (omega arith) in
-    sym (iter-turn j (rotation w i) (omega (arith, length-ring (turned-rotation w i)))) ∙
+    sym (iter-turn j (rotation w i) (omega (arith, length-rotated (turned-rotation w i)))) ∙
     rw (← e) (sym (iter-add turn j i w)) ∙ iter-turn (j + i) w le

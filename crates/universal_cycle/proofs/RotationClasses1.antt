@@ -1,4 +1,4 @@
--- Rule 1 joins the rings of the rank windows: each ring but that of the ones has one exit. Assumes nothing.
+-- Rule 1 joins the rotation classes of the rank windows: each class but that of the ones has one exit. Assumes nothing.
 use mathlib.Core.List.{List, [], _∷_, _++_, append-nil, List·Memᴰ·head, Memᴰ·append-right}
 use mathlib.Core.Logic.{_⊎_, inl, inr, ⊎-elim, _≢_}
 use mathlib.Core.Path.{_≡_, refl, sym, ap, ap₂, subst, _∙_}
@@ -13,8 +13,8 @@ use Rattle.weak_orders.specs.Window.{num, isRank}
 use Rattle.weak_orders.proofs.Iterates.{stay, _⨟_}
 use Rattle.weak_orders.proofs.Lists.{mem-replicate, mem-take, says-same, all-same, total, total-le, last-fail, last-unique}
 use Rattle.weak_orders.proofs.Orders.{lex-antisymm, lex-head}
-use Rattle.weak_orders.proofs.RankForm.{Rank, says-rank, rank-ring, rank-positive, rank-next, rank-one}
-use Rattle.weak_orders.proofs.Rotations.{round, turn, _⟳_, turned, swing, ⟳-sym, front-once, length-ring, num-ring, total-ring, mem-ring}
+use Rattle.weak_orders.proofs.RankForm.{Rank, says-rank, rank-rotated, rank-positive, rank-next, rank-one}
+use Rattle.weak_orders.proofs.Rotations.{round, turn, _⟳_, turned, swing, ⟳-sym, front-once, length-rotated, num-rotated, total-rotated, mem-rotated}
 use Rattle.weak_orders.proofs.Rotations.{to-front, rotation-split}
 use Rattle.weak_orders.proofs.Rotations.{least, Start, start-first}
 use Rattle.weak_orders.proofs.Symbols.{num-mem, below-zero, below-flat}
@@ -23,7 +23,7 @@ use Rattle.successors.specs.Rules.{before, rule1}
 use Rattle.successors.proofs.FirstSymbol.{change}
 use Rattle.successors.proofs.Rule1.{Case1, Case3, exit1, Exit1, says-exit1, weight, weight-le, case1-under, exit-partner, other-partner}
 use Rattle.successors.proofs.Rule1.{rank-change}
-use Rattle.successors.proofs.Singles.{Single, says-single, Plain, says-plain, single-ring, plain-ring, under-absent}
+use Rattle.successors.proofs.Singles.{Single, says-single, Plain, says-plain, single-rotated, plain-rotated, under-absent}
 use Rattle.universal_cycle.proofs.Joined.{Home, home, via, Leads, first, Joined}
 
 -- The least rotation begins with 1.
@@ -39,7 +39,7 @@ before-more : (k x : ℕ) (b : List ℕ) → before (suc (suc k)) (x ∷ b) ≡ 
 unfolding before
 before-more k x b = let e : suc (suc k) - 1 ≡ suc k = omega arith in rw e
 
--- In case 3 the first symbol is the last repeated one of the ring's least rotation.
+-- In case 3 the first symbol is the last repeated one of the class's least rotation.
 pub record Shape (x : ℕ) (b k r : List ℕ) : Type 0 where
   pub parts : b ≡ r ++ k
   pub lowest : (v : List ℕ) → x ∷ b ⟳ v → lexLe (k ++ (x ∷ r)) v ≡ true
@@ -57,49 +57,49 @@ case3-shape x b h c = let (i, e, S) = start-first x b in at i e S
       record { parts = sym (take-append-drop i b); lowest = S .lowest; rest = λ v m. c .clear v (rw (e, before-more i x b) m) },
     )
 
--- So it is the same for the whole ring.
+-- So it is the same for the whole rotation class.
 shape-unique : (x : ℕ) (b : List ℕ) (y : ℕ) (d k r k′ r′ : List ℕ) → x ∷ b ⟳ y ∷ d →
     ¬ Single (x ∷ b) x → ¬ Single (y ∷ d) y → Shape x b k r → Shape y d k′ r′ → y ∷ d ≡ x ∷ b
 shape-unique x b y d k r k′ r′ c n n′ S S′ =
-    let ring : x ∷ b ⟳ k ++ (x ∷ r) = stay (ap (λ l. x ∷ l) (S .parts)) ⨟ swing (x ∷ r) k in
-    let ring′ : y ∷ d ⟳ k′ ++ (y ∷ r′) = stay (ap (λ l. y ∷ l) (S′ .parts)) ⨟ swing (y ∷ r′) k′ in
-    let same = lex-antisymm _ _ (S .lowest _ (c ⨟ ring′)) (S′ .lowest _ (⟳-sym c ⨟ ring)) in
-    let (e₁, e₂) = last-unique (Single (x ∷ b)) k x r k′ y r′ n (S .rest) (λ s. n′ (single-ring c y s))
-    (λ v m. single-ring (⟳-sym c) v (S′ .rest v m)) same in
+    let rotated : x ∷ b ⟳ k ++ (x ∷ r) = stay (ap (λ l. x ∷ l) (S .parts)) ⨟ swing (x ∷ r) k in
+    let rotated′ : y ∷ d ⟳ k′ ++ (y ∷ r′) = stay (ap (λ l. y ∷ l) (S′ .parts)) ⨟ swing (y ∷ r′) k′ in
+    let same = lex-antisymm _ _ (S .lowest _ (c ⨟ rotated′)) (S′ .lowest _ (⟳-sym c ⨟ rotated)) in
+    let (e₁, e₂) = last-unique (Single (x ∷ b)) k x r k′ y r′ n (S .rest) (λ s. n′ (single-rotated c y s))
+    (λ v m. single-rotated (⟳-sym c) v (S′ .rest v m)) same in
     ap (λ l. y ∷ l) (S′ .parts) ∙ ap₂ _++_ (sym e₂) (sym e₁) ∙ sym (ap (λ l. x ∷ l) (S .parts))
 
 case3-repeated : (x : ℕ) (b : List ℕ) → Case3 x b → ¬ Single (x ∷ b) x
 case3-repeated x b c = ⊎-elim (λ e. omega (arith, c .big)) (λ e. omega (arith, c .many))
 
--- A ring has at most one exit.
+-- A rotation class has at most one exit.
 one-exit1 : (x : ℕ) (b : List ℕ) (y : ℕ) (d : List ℕ) → Rank (x ∷ b) → Exit1 (x ∷ b) → x ∷ b ⟳ y ∷ d → Exit1 (y ∷ d) → y ∷ d ≡ x ∷ b
 one-exit1 x b y d h t c t′ = ⊎-elim
-    (λ c1. ⊎-elim (ones c1) (λ c3. absurd (c3 .not-plain (plain-ring c (c1 .plain)))) (says-exit1 y d .to t′))
-    (λ c3. ⊎-elim (λ c1. absurd (c3 .not-plain (plain-ring (⟳-sym c) (c1 .plain)))) (repeated c3) (says-exit1 y d .to t′))
+    (λ c1. ⊎-elim (ones c1) (λ c3. absurd (c3 .not-plain (plain-rotated c (c1 .plain)))) (says-exit1 y d .to t′))
+    (λ c3. ⊎-elim (λ c1. absurd (c3 .not-plain (plain-rotated (⟳-sym c) (c1 .plain)))) (repeated c3) (says-exit1 y d .to t′))
     (says-exit1 x b .to t)
   where
     ones : Case1 x b → Case1 y d → y ∷ d ≡ x ∷ b
     ones c1 c1′ =
-        let same : y ≡ x = omega (arith, c1 .is, c1′ .is, num-ring c 1) in
+        let same : y ≡ x = omega (arith, c1 .is, c1′ .is, num-rotated c 1) in
         let once : ¬ (x ∈ b) = λ m. omega (arith, num-mem b x .1 m, under-absent b 1 x (case1-under x b h c1)) in
         ap (λ z. z ∷ d) same ∙ front-once x b d once (rw same at c)
 
     repeated : Case3 x b → Case3 y d → y ∷ d ≡ x ∷ b
     repeated c3 c3′ =
         let (k, r, S) = case3-shape x b h c3 in
-        let (k′, r′, S′) = case3-shape y d (rank-ring c h) c3′ in
+        let (k′, r′, S′) = case3-shape y d (rank-rotated c h) c3′ in
         shape-unique x b y d k r k′ r′ c (case3-repeated x b c3) (case3-repeated y d c3′) S S′
 
-abbrev RingExit : List ℕ → Type 0
-RingExit w = (y : ℕ) × (d : List ℕ) × (w ⟳ y ∷ d) × Exit1 (y ∷ d)
+abbrev ClassExit : List ℕ → Type 0
+ClassExit w = (y : ℕ) × (d : List ℕ) × (w ⟳ y ∷ d) × Exit1 (y ∷ d)
 
--- A plain ring with another symbol than 1 has an exit.
-plain-exit : (x : ℕ) (b : List ℕ) → Rank (x ∷ b) → Plain (x ∷ b) → (s : ℕ) → s ∈ x ∷ b → s ≢ 1 → RingExit (x ∷ b)
+-- A plain class with another symbol than 1 has an exit.
+plain-exit : (x : ℕ) (b : List ℕ) → Rank (x ∷ b) → Plain (x ∷ b) → (s : ℕ) → s ∈ x ∷ b → s ≢ 1 → ClassExit (x ∷ b)
 plain-exit x b h pl s m ne =
     let w = x ∷ b in
     let y = 1 + num w 1 in
     let (d, c) = to-front w y (rank-next w h 1 s (rank-one w h s m) m (omega (arith, rank-positive w h s m))) in
-    (y, d, c, says-exit1 y d .of (inl (record { plain = plain-ring c pl; is = omega (arith, num-ring c 1) })))
+    (y, d, c, says-exit1 y d .of (inl (record { plain = plain-rotated c pl; is = omega (arith, num-rotated c 1) })))
 
 -- The converse of `case3-shape`.
 shape-case3 : (x : ℕ) (b k r : List ℕ) → Rank (x ∷ b) → ¬ Single (x ∷ b) x → Shape x b k r → Case3 x b
@@ -130,24 +130,24 @@ shape-case3 x b k r h n S = record {
         let e : take i b ≡ take i r = ap (take i) (S .parts) ∙ take-append-le i r k (omega arith) in
         mem-take i r v (rw (before-more i x b, e) at m)
 
--- So has a ring with a repeated symbol: behind the last one of its least rotation.
-repeated-exit : (x : ℕ) (b : List ℕ) → Rank (x ∷ b) → ¬ Plain (x ∷ b) → RingExit (x ∷ b)
+-- So has a class with a repeated symbol: behind the last one of its least rotation.
+repeated-exit : (x : ℕ) (b : List ℕ) → Rank (x ∷ b) → ¬ Plain (x ∷ b) → ClassExit (x ∷ b)
 repeated-exit x b h np = let (a, c, low) = least x b in at a c low
   where
-    at : (a : List ℕ) → x ∷ b ⟳ a → ((v : List ℕ) → x ∷ b ⟳ v → lexLe a v ≡ true) → RingExit (x ∷ b)
+    at : (a : List ℕ) → x ∷ b ⟳ a → ((v : List ℕ) → x ∷ b ⟳ v → lexLe a v ≡ true) → ClassExit (x ∷ b)
     at a c low =
-        let (k, s, r, e, f, g) = last-fail (says-single a) a (λ h. np (plain-ring (⟳-sym c) h)) in
+        let (k, s, r, e, f, g) = last-fail (says-single a) a (λ h. np (plain-rotated (⟳-sym c) h)) in
         let c′ : a ⟳ s ∷ (r ++ k) = stay e ⨟ swing k (s ∷ r) in
         let S : Shape s (r ++ k) k r = record {
           parts = refl;
           lowest = λ v c″. rw e at (low v (c ⨟ c′ ⨟ c″));
-          rest = λ v m. single-ring c′ v (g v m);
+          rest = λ v m. single-rotated c′ v (g v m);
         } in
-        let C = shape-case3 s (r ++ k) k r (rank-ring (c ⨟ c′) h) (λ t. f (single-ring (⟳-sym c′) s t)) S in
+        let C = shape-case3 s (r ++ k) k r (rank-rotated (c ⨟ c′) h) (λ t. f (single-rotated (⟳-sym c′) s t)) S in
         (s, r ++ k, c ⨟ c′, says-exit1 s (r ++ k) .of (inr C))
 
-ring-exit : (x : ℕ) (b : List ℕ) → Rank (x ∷ b) → ¬ ((v : ℕ) → v ∈ x ∷ b → v ≡ 1) → RingExit (x ∷ b)
-ring-exit x b h z = elim (says? (says-plain (x ∷ b))) [
+class-exit : (x : ℕ) (b : List ℕ) → Rank (x ∷ b) → ¬ ((v : ℕ) → v ∈ x ∷ b → v ≡ 1) → ClassExit (x ∷ b)
+class-exit x b h z = elim (says? (says-plain (x ∷ b))) [
   | yes p ↦
       let (k, s, r, e, f, _) = last-fail (says-same 1) (x ∷ b) z in
       plain-exit x b h p s (subst (λ l. s ∈ l) (sym e) (Memᴰ·append-right k here)) f
@@ -189,14 +189,14 @@ module _ (m : ℕ) where
 
   one-exit : (w v : List ℕ) → RankOf n w → Exit1 w → w ⟳ v → Exit1 v → v ≡ w
   one-exit [] v (e, h) r c s = absurd (omega arith)
-  one-exit (x ∷ b) [] (e, h) r c s = absurd (omega (arith, length-ring c))
+  one-exit (x ∷ b) [] (e, h) r c s = absurd (omega (arith, length-rotated c))
   one-exit (x ∷ b) (y ∷ d) (e, h) r c s = one-exit1 x b y d (says-rank (x ∷ b) .to h) r c s
 
   -- A window of ones only is no exit.
   no-exit : (v : List ℕ) → ones ⟳ v → ¬ Exit1 v
-  no-exit [] c t = absurd (omega (arith, length-ring c))
+  no-exit [] c t = absurd (omega (arith, length-rotated c))
   no-exit (x ∷ b) c t =
-      let e : x ≡ 1 = mem-replicate n 1 x (mem-ring c x here) in
+      let e : x ≡ 1 = mem-replicate n 1 x (mem-rotated c x here) in
       ⊎-elim (λ c1. omega (arith, c1 .is, num-mem (x ∷ b) 1 .1 (List·Memᴰ·head (sym e)))) (λ c3. omega (arith, c3 .big)) (says-exit1 x b .to t)
 
   detour : (w : List ℕ) → RankOf n w → ¬ Exit1 w → Home τ (depth1 n) Exit1 w (τ w)
@@ -214,12 +214,12 @@ module _ (m : ℕ) where
   up (x ∷ b) (e, h) = elim (says? (says-all (says-same 1) (x ∷ b))) [
     | yes z ↦ inl (stay (sym (all-same 1 (x ∷ b) z ∙ ap (λ k. replicate k 1) e)))
     | no z ↦
-        let (y, d, c, ex) = ring-exit x b (says-rank (x ∷ b) .to h) z in
-        let (lo, q) = exit-partner y d (rank-ring c (says-rank (x ∷ b) .to h)) ex in
+        let (y, d, c, ex) = class-exit x b (says-rank (x ∷ b) .to h) z in
+        let (lo, q) = exit-partner y d (rank-rotated c (says-rank (x ∷ b) .to h)) ex in
         inr (
           lo ∷ d,
-          (omega (arith, length-ring c), says-rank (lo ∷ d) .of (q .rank-lo)),
-          omega (arith, depth-less n lo y d (q .deeper n (omega (arith, length-ring c))), total-ring (weight n) c),
+          (omega (arith, length-rotated c), says-rank (lo ∷ d) .of (q .rank-lo)),
+          omega (arith, depth-less n lo y d (q .deeper n (omega (arith, length-rotated c))), total-rotated (weight n) c),
           y ∷ d,
           first (ap (λ z. z ∷ d) (sym (q .rises))) ex,
           c,
@@ -229,10 +229,10 @@ module _ (m : ℕ) where
   pub joined1 : Joined (RankOf (suc m)) turn (change rule1) (depth1 (suc m)) Exit1 (replicate (suc m) 1)
   joined1 = record {
     root-in = (length-replicate n 1, says-rank ones .of ones-rank);
-    ρ-in = λ w (e, h). (length-ring turned ∙ e, says-rank _ .of (rank-ring turned (says-rank w .to h)));
+    ρ-in = λ w (e, h). (length-rotated turned ∙ e, says-rank _ .of (rank-rotated turned (says-rank w .to h)));
     τ-in = change-in;
     round = λ w p. round w;
-    level = λ w p. total-ring (weight n) turned;
+    level = λ w p. total-rotated (weight n) turned;
     deepest = n * suc n;
     bounded = λ w (e, h). rw e at (total-le (weight n) (suc n) w (λ x k. weight-le n x));
     exit? = λ w p. true? (exit1 w);

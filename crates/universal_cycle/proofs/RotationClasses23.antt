@@ -1,4 +1,4 @@
--- Rules 2 and 3 join the rings of the height windows: each ring but that of the zeros has one exit. Assumes nothing.
+-- Rules 2 and 3 join the rotation classes of the height windows: each class but that of the zeros has one exit. Assumes nothing.
 use mathlib.Core.List.{List, [], _∷_}
 use mathlib.Core.Logic.{_⊎_, inl, inr, ⊎-elim}
 use mathlib.Core.Path.{_≡_, sym, ap, _∙_}
@@ -8,10 +8,10 @@ use lib.ListN.{length, replicate, length-replicate}
 use mathlib.Core.Bool.{true}
 use Rattle.weak_orders.specs.Order.{lexLe}
 use Rattle.weak_orders.specs.Window.{isHeight}
-use Rattle.weak_orders.proofs.HeightForm.{says-height, height-ring, height-below}
+use Rattle.weak_orders.proofs.HeightForm.{says-height, height-rotated, height-below}
 use Rattle.weak_orders.proofs.Iterates.{stay, _⨟_}
 use Rattle.weak_orders.proofs.Lists.{mem-replicate, all-same, total, total-le}
-use Rattle.weak_orders.proofs.Rotations.{round, turn, _⟳_, turned, ⟳-sym, length-ring, total-ring, mem-ring, greatest}
+use Rattle.weak_orders.proofs.Rotations.{round, turn, _⟳_, turned, ⟳-sym, length-rotated, total-rotated, mem-rotated, greatest}
 use Rattle.weak_orders.proofs.Tests.{true?, says?}
 use Rattle.successors.specs.Rules.{inR, rule2, rule3}
 use Rattle.successors.proofs.FirstSymbol.{change}
@@ -93,7 +93,7 @@ module _ {rule : List ℕ → ℕ} (M : Moves rule) where
 
     one-exit : (w v : List ℕ) → P w → R w → w ⟳ v → R v → v ≡ w
     one-exit [] v (e, h) r c s = absurd (omega arith)
-    one-exit (x ∷ b) [] (e, h) r c s = absurd (omega (arith, length-ring c))
+    one-exit (x ∷ b) [] (e, h) r c s = absurd (omega (arith, length-rotated c))
     one-exit (x ∷ b) (y ∷ d) p r c s = R-one x b y d r s c
 
     detour : (w : List ℕ) → P w → ¬ R w → Home τ sumOf R w (τ w)
@@ -106,27 +106,27 @@ module _ {rule : List ℕ → ℕ} (M : Moves rule) where
       where
         at : (g : List ℕ) → x ∷ b ⟳ g → ((v : List ℕ) → x ∷ b ⟳ v → lexLe v g ≡ true) →
             (zeros ⟳ x ∷ b) ⊎ ((x₀ : List ℕ) × P x₀ × (sumOf x₀ < sumOf (x ∷ b)) × (y : List ℕ) × Leads τ R x₀ y × (x ∷ b ⟳ y))
-        at [] c high = absurd (omega (arith, length-ring c))
+        at [] c high = absurd (omega (arith, length-rotated c))
         at (y ∷ d) c high = elim (says? (says-zeros (y ∷ d))) [
-          | yes z ↦ inl (stay (sym (all-same 0 (x ∷ b) (λ v k. z v (mem-ring (⟳-sym c) v k)) ∙ ap (λ k. replicate k 0) e)))
+          | yes z ↦ inl (stay (sym (all-same 0 (x ∷ b) (λ v k. z v (mem-rotated (⟳-sym c) v k)) ∙ ap (λ k. replicate k 0) e)))
           | no z ↦
-              let B = from-below d (spot d y) (R-of y d (height-ring c h) (λ v c′. high v (c ⨟ c′)) z) in
-              let shallow : sumOf (B .x ∷ d) < sumOf (x ∷ b) = omega (arith, sum-less (B .x) y d (B .lower), total-ring (λ k. k) c) in
-              inr (B .x ∷ d, (omega (arith, length-ring c), B .height), shallow, y ∷ d, B .leads, c)
+              let B = from-below d (spot d y) (R-of y d (height-rotated c h) (λ v c′. high v (c ⨟ c′)) z) in
+              let shallow : sumOf (B .x ∷ d) < sumOf (x ∷ b) = omega (arith, sum-less (B .x) y d (B .lower), total-rotated (λ k. k) c) in
+              inr (B .x ∷ d, (omega (arith, length-rotated c), B .height), shallow, y ∷ d, B .leads, c)
         ]
 
     pub joined : Joined P turn τ sumOf R zeros
     joined = record {
       root-in = (length-replicate (suc m) 0, says-height zeros .of (λ x k y lt. absurd (omega (arith, mem-replicate (suc m) 0 x k))));
-      ρ-in = λ w (e, h). (length-ring turned ∙ e, height-ring turned h);
+      ρ-in = λ w (e, h). (length-rotated turned ∙ e, height-rotated turned h);
       τ-in = change-in;
       round = λ w p. round w;
-      level = λ w p. total-ring (λ x. x) turned;
+      level = λ w p. total-rotated (λ x. x) turned;
       deepest = suc m * suc m;
       bounded = λ w (e, h). rw e at (total-le (λ x. x) (length w) w (λ x k. omega (arith, height-below w h x k)));
       exit? = λ w p. true? (inR w);
       one-exit = λ p r c s. one-exit _ _ p r c s;
-      no-exit = λ c r. R-not-zeros _ r (λ x k. mem-replicate (suc m) 0 x (mem-ring c x k));
+      no-exit = λ c r. R-not-zeros _ r (λ x k. mem-replicate (suc m) 0 x (mem-rotated c x k));
       detour = detour;
       up = up;
     }
