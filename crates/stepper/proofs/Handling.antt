@@ -21,7 +21,7 @@ use Rattle.frames.specs.Answer.{accepted}
 use Rattle.stepper.specs.declared.session.Exchanged.{Exchanged}
 use Rattle.stepper.specs.declared.session.Session.{Session}
 use Rattle.stepper.specs.Exchange.{windowOk, beginReply, refuse, roundIn, beginFrame, handle, answerTo, Outcome, exchange}
-use Rattle.stepper.specs.TwoBenches.{beginOk, BeginAccepted}
+use Rattle.stepper.specs.ExactlyOnce.{beginOk, BeginAccepted}
 use Rattle.stepper.proofs.Begun.{begin-judged}
 
 -- the outcome of a frame whose answer has room
@@ -93,12 +93,12 @@ pub number-tests : (R : Cause → Exchanged) (session : ℕ → Session) (accept
     ≡ cond (eqb k (c + 1) && leb k end || eqb k c && leb 1 k) (accept (session k)) (R (cond (eqb k (c + 1)) RoundFinished StepNumber))
 number-tests R session accept c k end le = elim (ℕ-discrete k (c + 1)) [
   | yes e ↦
-      let no-resend = ne-eqb k c (omega arith) in
+      let no-retransmission = ne-eqb k c (omega arith) in
       let positive = ne-eqb k 0 (omega arith) in
       elim (decLt c end) [
-        | yes l ↦ rw (eq-eqb k (c + 1) e, no-resend, positive, ne-eqb c end (omega arith), le-leb k end (omega arith))
+        | yes l ↦ rw (eq-eqb k (c + 1) e, no-retransmission, positive, ne-eqb c end (omega arith), le-leb k end (omega arith))
             (ap (λ i. accept (session i)) (sym e))
-        | no l ↦ rw (eq-eqb k (c + 1) e, no-resend, positive, eq-eqb c end (omega arith), lt-leb k end (omega arith))
+        | no l ↦ rw (eq-eqb k (c + 1) e, no-retransmission, positive, eq-eqb c end (omega arith), lt-leb k end (omega arith))
       ]
   | no x ↦ elim (ℕ-discrete k c) [
     | yes e ↦ elim (decLt 0 k) [

@@ -3,6 +3,6 @@ pub mod Cases
 pub mod Handling
 pub mod Standing
 pub mod Counting
-pub mod TwoBenches
+pub mod ExactlyOnce
 pub mod WindowLevels
 pub mod Worked

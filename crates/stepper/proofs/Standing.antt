@@ -22,8 +22,8 @@ use Rattle.frames.specs.Question.{isQuestion, kindIn, letterB, letterS, lengthI
 use Rattle.frames.specs.Question.{reservedS}
 use Rattle.frames.proofs.Padding.{unused-padded, padded-take}
 use Rattle.stepper.specs.Exchange.{hasBegun, refuse, roundIn, onward, stepped, stepOf, stepFrame, handle}
-use Rattle.stepper.specs.TwoBenches.{Arrival, passes, isNext, isResend, accepts, roundOf, causeAt}
-use Rattle.stepper.specs.TwoBenches.{startOf, windowAfter, sessionAt, beginOk}
+use Rattle.stepper.specs.ExactlyOnce.{Arrival, passes, isNext, isRetransmission, accepts, roundOf, causeAt}
+use Rattle.stepper.specs.ExactlyOnce.{startOf, windowAfter, sessionAt, beginOk}
 use Rattle.stepper.proofs.Begun.{RoundOk, says-round, says-begun}
 use Rattle.stepper.proofs.Handling.{frame-tests, number-tests}
 
@@ -88,7 +88,7 @@ module _ (g : List ℕ) (G : Good g) where
   pub step-handled : (c : ℕ) → c ≤ roundOf g → (x : Arrival) → 40 ≤ x .room → kindIn (x .frame) ≡ letterS →
       handle (sessionAt g c) (x .frame)
       ≡ cond (accepts (roundOf g) c x) (stepped (sessionAt g (numberIn (x .frame)))) (refuse (sessionAt g c) (causeAt c x))
-  unfolding handle stepFrame stepOf accepts isNext isResend passes causeAt roundOf sessionAt
+  unfolding handle stepFrame stepOf accepts isNext isRetransmission passes causeAt roundOf sessionAt
   step-handled c le x l kind =
       let f = x .frame in
       rw (kind, begun-at c le, onward-at c, le-leb 40 (x .room) l, le-ltb (x .room) 40 l)
@@ -97,5 +97,5 @@ module _ (g : List ℕ) (G : Good g) where
 
 -- Without room the count does not accept, and the cause is that.
 pub short-refused : (end c : ℕ) (x : Arrival) → x .room < 40 → (accepts end c x ≡ false) × (causeAt c x ≡ ShortBuffer)
-unfolding accepts isNext isResend passes causeAt
+unfolding accepts isNext isRetransmission passes causeAt
 short-refused end c x l = rw (lt-leb 40 (x .room) l, lt-ltb (x .room) 40 l) (refl, refl)

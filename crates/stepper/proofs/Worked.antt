@@ -8,10 +8,10 @@ use native.Mathlib.Omega.{arith}
 use lib.ListN.{getElem?}
 use Rattle.frames.specs.Question.{kindIn, letterS, numberIn}
 use Rattle.stepper.specs.Exchange.{fresh, exchange}
-use Rattle.stepper.specs.TwoBenches.{passes, roundOf, countOf, Request, arrival, run, firsts}
-use Rattle.stepper.specs.Example.{beginning, stepping, asking, lent, listA, listB, odd, leftA, leftB, leftHeights}
+use Rattle.stepper.specs.ExactlyOnce.{passes, roundOf, countOf, Request, arrival, run, firsts}
+use Rattle.stepper.specs.Example.{beginning, stepping, asking, lent, ordered, arrived, odd, leftReference, leftRetried, leftHeights}
 use Rattle.stepper.specs.Example.{Instance, replyTo, replyLater, Fields, Refusals}
-use Rattle.stepper.proofs.TwoBenches.{two-benches}
+use Rattle.stepper.proofs.ExactlyOnce.{steps-exactly-once}
 
 -- what holds at each position of a list
 abbrev Each : (ℕ → Request → Type 0) → List Request → Type 0
@@ -24,32 +24,32 @@ each P (y ∷ l) h zero x e = let p : y ≡ x = cc in subst (P 0) p (h .0)
 each P (y ∷ l) h (suc i) x e = each (λ i. P (suc i)) l (h .1) i x e
 
 pub «instance» : Instance
-unfolding beginning stepping lent listA listB odd leftA leftB fresh exchange passes numberIn roundOf countOf run firsts
+unfolding beginning stepping lent ordered arrived odd leftReference leftRetried fresh exchange passes numberIn roundOf countOf run firsts
 «instance» = record {
   round = refl;
-  accepted-A = refl;
-  accepted-B = refl;
+  accepted-reference = refl;
+  accepted-retried = refl;
   replies = refl;
   count = refl;
   windows = refl;
   answer = refl;
   untouched = refl;
   refusal = refl;
-  both = two-benches fresh odd beginning (lent 40) (lent 45) listA listB refl refl refl
+  both = steps-exactly-once fresh odd beginning (lent 40) (lent 45) ordered arrived refl refl refl
       (record {
         long = refl;
-        step = each (λ i x. kindIn (x .frame) ≡ letterS) listA (refl, (refl, (refl, tt)));
-        pass = each (λ i x. passes (arrival x) ≡ true) listA (refl, (refl, (refl, tt)));
-        numbered = each (λ i x. numberIn (x .frame) ≡ i + 1) listA (refl, (refl, (refl, tt)));
+        step = each (λ i x. kindIn (x .frame) ≡ letterS) ordered (refl, (refl, (refl, tt)));
+        pass = each (λ i x. passes (arrival x) ≡ true) ordered (refl, (refl, (refl, tt)));
+        numbered = each (λ i x. numberIn (x .frame) ≡ i + 1) ordered (refl, (refl, (refl, tt)));
       })
       (record {
-        step = each (λ i x. kindIn (x .frame) ≡ letterS) listB
+        step = each (λ i x. kindIn (x .frame) ≡ letterS) arrived
             (refl, (refl, (refl, (refl, (refl, (refl, (refl, (refl, (refl, (refl, (refl, (refl, tt))))))))))));
       });
 }
 
 pub refusals : Refusals
-unfolding beginning stepping asking lent leftA fresh exchange replyTo replyLater
+unfolding beginning stepping asking lent leftReference fresh exchange replyTo replyLater
 refusals = record {
   header = refl;
   kind = refl;

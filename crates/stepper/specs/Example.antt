@@ -17,7 +17,7 @@ use Rattle.frames.specs.Fields.{bytes64}
 use Rattle.frames.specs.Question.{numberIn}
 use Rattle.stepper.specs.declared.session.Session.{Session}
 use Rattle.stepper.specs.Exchange.{fresh, Outcome, exchange}
-use Rattle.stepper.specs.TwoBenches.{roundOf, countOf, Request, arrival, run, firsts, TwoBenches}
+use Rattle.stepper.specs.ExactlyOnce.{roundOf, countOf, Request, arrival, run, firsts, ExactlyOnce}
 
 -- a B frame, an S frame numbered k < 256, a Q frame
 unfoldable pub beginning : List ℕ
@@ -37,11 +37,11 @@ lent m = replicate m 7
 abbrev pub sent : List ℕ → ℕ → Request
 sent f m = record { frame = f; buffer = lent m }
 
-unfoldable pub listA : List Request
-listA = sent (stepping 1) 40 ∷ sent (stepping 2) 41 ∷ sent (stepping 3) 64 ∷ []
+unfoldable pub ordered : List Request
+ordered = sent (stepping 1) 40 ∷ sent (stepping 2) 41 ∷ sent (stepping 3) 64 ∷ []
 
-unfoldable pub listB : List Request
-listB =
+unfoldable pub arrived : List Request
+arrived =
     sent (stepping 1) 42 ∷ sent (stepping 1) 40 ∷ sent (stepping 2) 39 ∷ sent (stepping 3) 40 ∷ sent (stepping 2 ++ (0 ∷ [])) 40
     ∷ sent (set (stepping 2) 2 65) 40 ∷ sent (set (stepping 2) 39 1) 40 ∷ sent (stepping 0) 40 ∷ sent (stepping 2) 40
     ∷ sent (stepping 3) 40 ∷ sent (stepping 4) 40 ∷ sent (stepping 3) 40 ∷ []
@@ -59,40 +59,40 @@ odd =
     }
 
 -- the sessions that the begin frame leaves
-unfoldable pub leftA : Session
-leftA = exchange fresh beginning (lent 40) .0 .session
+unfoldable pub leftReference : Session
+leftReference = exchange fresh beginning (lent 40) .0 .session
 
-unfoldable pub leftB : Session
-leftB = exchange odd beginning (lent 45) .0 .session
+unfoldable pub leftRetried : Session
+leftRetried = exchange odd beginning (lent 45) .0 .session
 
 unfoldable pub leftHeights : Session
 leftHeights = exchange fresh (set (set (set beginning 6 3) 24 0) 25 0) (lent 40) .0 .session
 
 pub record Instance : Type 0 where
   pub round : roundOf beginning ≡ 3
-  pub accepted-A : accepted (exchange fresh beginning (lent 40) .0 .reply) ≡ true
-  pub accepted-B : accepted (exchange odd beginning (lent 45) .0 .reply) ≡ true
-  pub replies : map (λ (o : Outcome). o .0 .reply) (run leftB listB)
+  pub accepted-reference : accepted (exchange fresh beginning (lent 40) .0 .reply) ≡ true
+  pub accepted-retried : accepted (exchange odd beginning (lent 45) .0 .reply) ≡ true
+  pub replies : map (λ (o : Outcome). o .0 .reply) (run leftRetried arrived)
       ≡ Accepted 2 (negsuc 1099) ∷ Accepted 2 (negsuc 1099) ∷ Refused ShortBuffer ∷ Refused StepNumber ∷ Refused FrameLength
       ∷ Refused FrameHeader ∷ Refused ReservedByte ∷ Refused StepNumber ∷ Accepted 1 (negsuc 999)
       ∷ Accepted 1 (negsuc 999) ∷ Refused RoundFinished ∷ Accepted 1 (negsuc 999) ∷ []
-  pub count : countOf beginning (map arrival listB) ≡ 3
-  pub windows : map (λ (s : Session). take 2 (s .window)) (firsts 3 0 listB (run leftB listB))
+  pub count : countOf beginning (map arrival arrived) ≡ 3
+  pub windows : map (λ (s : Session). take 2 (s .window)) (firsts 3 0 arrived (run leftRetried arrived))
       ≡ (1 ∷ 2 ∷ []) ∷ (2 ∷ 1 ∷ []) ∷ (1 ∷ 1 ∷ []) ∷ []
   -- the buffers of the first, the third and the fourth frame
-  pub answer : getElem? (map (λ (o : Outcome). o .1) (run leftB listB)) 0
+  pub answer : getElem? (map (λ (o : Outcome). o .1) (run leftRetried arrived)) 0
       ≡ some ((87 ∷ 75 ∷ 65 ∷ 49 ∷ 0 ∷ 2 ∷ 2 ∷ 0 ∷ 1 ∷ []) ++ replicate 7 0
       ++ (180 ∷ 251 ∷ 255 ∷ 255 ∷ 0 ∷ 0 ∷ 0 ∷ 0 ∷ 1 ∷ 2 ∷ []) ++ replicate 14 0 ++ (7 ∷ 7 ∷ []))
-  pub untouched : getElem? (map (λ (o : Outcome). o .1) (run leftB listB)) 2 ≡ some (replicate 39 7)
-  pub refusal : getElem? (map (λ (o : Outcome). o .1) (run leftB listB)) 3 ≡ some ((87 ∷ 75 ∷ 65 ∷ 49 ∷ 11 ∷ []) ++ replicate 35 0)
-  pub both : TwoBenches beginning leftA leftB listA listB
+  pub untouched : getElem? (map (λ (o : Outcome). o .1) (run leftRetried arrived)) 2 ≡ some (replicate 39 7)
+  pub refusal : getElem? (map (λ (o : Outcome). o .1) (run leftRetried arrived)) 3 ≡ some ((87 ∷ 75 ∷ 65 ∷ 49 ∷ 11 ∷ []) ++ replicate 35 0)
+  pub both : ExactlyOnce beginning leftReference leftRetried ordered arrived
 
 -- the reply to a frame, by a fresh session and by the one that the begin frame leaves
 unfoldable pub replyTo : List ℕ → Reply
 replyTo f = exchange fresh f (lent 40) .0 .reply
 
 unfoldable pub replyLater : List ℕ → Reply
-replyLater f = exchange leftA f (lent 40) .0 .reply
+replyLater f = exchange leftReference f (lent 40) .0 .reply
 
 -- the begin frame with one byte changed, and what it is refused for
 abbrev pub Refuses : List (ℕ × ℕ) → Cause → Type 0

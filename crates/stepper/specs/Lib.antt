@@ -1,4 +1,4 @@
 pub mod Exchange
-pub mod TwoBenches
+pub mod ExactlyOnce
 pub mod Example
 pub mod Levels

@@ -1,4 +1,4 @@
--- Two sessions, one round: the proof of demand 3. Assumes nothing.
+-- Each step exactly once, whatever is sent again or lost: the proof of demand 3. Assumes nothing.
 use mathlib.Core.Bool.{true, false, false≢true}
 use mathlib.Core.List.{List, [], _∷_, map}
 use mathlib.Core.Option.{some}
@@ -17,12 +17,12 @@ use Rattle.frames.specs.Answer.{accepted, answerBytes, stepReply}
 use Rattle.stepper.specs.declared.session.Exchanged.{Exchanged}
 use Rattle.stepper.specs.declared.session.Session.{Session}
 use Rattle.stepper.specs.Exchange.{refuse, stepped, answerTo, Outcome, exchange}
-use Rattle.stepper.specs.TwoBenches.{isNext, accepts, counted, countFrom, roundOf, countOf, causeAt, windowAfter, sessionAt}
-use Rattle.stepper.specs.TwoBenches.{replyAt, answerAt, Request, arrival, run, after, InOrder, StepFrames, Position, Answered}
-use Rattle.stepper.specs.TwoBenches.{TurnedDown, SameAnswer, numbersAfter, firsts, TwoBenches, Demand3}
+use Rattle.stepper.specs.ExactlyOnce.{isNext, accepts, counted, countFrom, roundOf, countOf, causeAt, windowAfter, sessionAt}
+use Rattle.stepper.specs.ExactlyOnce.{replyAt, answerAt, Request, arrival, run, after, InOrder, StepFrames, Position, Answered}
+use Rattle.stepper.specs.ExactlyOnce.{Rejected, SameAnswer, numbersAfter, firsts, ExactlyOnce, StepsExactlyOnce}
 use Rattle.stepper.proofs.Handling.{written, room, no-room, begin-taken}
 use Rattle.stepper.proofs.Standing.{Good, good, standing, listing, held, begin-at, begun-at, step-handled, short-refused}
-use Rattle.stepper.proofs.Counting.{Verdict, next, resend, neither, verdict, says-next, number-between, counted-next, counted-same}
+use Rattle.stepper.proofs.Counting.{StepCase, next, retransmission, neither, step-case, says-next, number-between, counted-next, counted-same}
 use Rattle.stepper.proofs.Counting.{counted-le, count-le, count-ge, next-of, in-order}
 
 -- ---- lists of requests, whatever the frames
@@ -91,10 +91,10 @@ module _ (g : List ℕ) (G : Good g) where
       }
 
 -- what a refused frame gets
-refused-down : (s : Session) (cause : Cause) (buffer : List ℕ) → 40 ≤ length buffer →
-    TurnedDown cause s buffer (written (refuse s cause) buffer)
+rejected-written : (s : Session) (cause : Cause) (buffer : List ℕ) → 40 ≤ length buffer →
+    Rejected cause s buffer (written (refuse s cause) buffer)
 unfolding written answerTo answerBytes
-refused-down s cause buffer h = record {
+rejected-written s cause buffer h = record {
   reply = refl;
   session = refl;
   short = λ l. absurd (omega arith);
@@ -102,8 +102,8 @@ refused-down s cause buffer h = record {
   rest = written-rest (refuse s cause) buffer refl;
 }
 
-short-down : (s : Session) (buffer : List ℕ) → length buffer < 40 → TurnedDown ShortBuffer s buffer (refuse s ShortBuffer, buffer)
-short-down s buffer h = record {
+rejected-short : (s : Session) (buffer : List ℕ) → length buffer < 40 → Rejected ShortBuffer s buffer (refuse s ShortBuffer, buffer)
+rejected-short s buffer h = record {
   reply = refl;
   session = refl;
   short = λ l. refl;
@@ -124,12 +124,12 @@ module _ (g : List ℕ) (G : Good g) (c : ℕ) (le : c ≤ roundOf g) (x : Reque
   ]
 
   not-taken : accepts (roundOf g) c (arrival x) ≡ false →
-      TurnedDown (causeAt c (arrival x)) (sessionAt g c) (x .buffer) (one (sessionAt g c) x)
+      Rejected (causeAt c (arrival x)) (sessionAt g c) (x .buffer) (one (sessionAt g c) x)
   not-taken t = elim (decLt (length (x .buffer)) 40) [
     | yes l ↦ rw (no-room (sessionAt g c) (x .frame) (x .buffer) l, short-refused (roundOf g) c (arrival x) l .1)
-        (short-down (sessionAt g c) (x .buffer) l)
+        (rejected-short (sessionAt g c) (x .buffer) l)
     | no l ↦ rw (room (sessionAt g c) (x .frame) (x .buffer) (omega arith), step-handled g G c le (arrival x) (omega arith) kind, t)
-        (refused-down (sessionAt g c) (causeAt c (arrival x)) (x .buffer) (omega arith))
+        (rejected-written (sessionAt g c) (causeAt c (arrival x)) (x .buffer) (omega arith))
   ]
 
   one-accepted : accepted (one (sessionAt g c) x .0 .reply) ≡ accepts (roundOf g) c (arrival x)
@@ -141,11 +141,11 @@ module _ (g : List ℕ) (G : Good g) (c : ℕ) (le : c ≤ roundOf g) (x : Reque
   -- The session goes on as the count does.
   one-session : one (sessionAt g c) x .0 .session ≡ sessionAt g (counted (roundOf g) c (arrival x))
   unfolding accepts counted written stepped
-  one-session = go (verdict (roundOf g) c (arrival x))
+  one-session = go (step-case (roundOf g) c (arrival x))
     where
-      go : Verdict (roundOf g) c (arrival x) → one (sessionAt g c) x .0 .session ≡ sessionAt g (counted (roundOf g) c (arrival x))
+      go : StepCase (roundOf g) c (arrival x) → one (sessionAt g c) x .0 .session ≡ sessionAt g (counted (roundOf g) c (arrival x))
       go (next e n h) = rw (taken (rw e), e) (ap (sessionAt g) n)
-      go (resend e e′ n h) = rw (taken (rw (e, e′)), e) (ap (sessionAt g) n)
+      go (retransmission e e′ n h) = rw (taken (rw (e, e′)), e) (ap (sessionAt g) n)
       go (neither e e′) = not-taken (rw (e, e′)) .session ∙ rw e
 
 -- ---- a list of step frames
@@ -192,71 +192,75 @@ module _ (g : List ℕ) (G : Good g) where
 
 -- ---- the two lists
 
-module _ (g : List ℕ) (G : Good g) (listA listB : List Request) (ordered : InOrder (roundOf g) listA) (frames : StepFrames listB) where
-  frames-A : StepFrames listA
-  frames-A = record { step = ordered .step }
+done-at : (g : List ℕ) (k : ℕ) → sessionAt g k .done ≡ k
+unfolding sessionAt
+done-at g k = refl
 
-  count-A : (i : ℕ) → i ≤ roundOf g → countFrom (roundOf g) 0 (map arrival (take i listA)) ≡ i
-  count-A i h =
-      in-order (roundOf g) listA 0 (omega (arith, ordered .long))
-      (λ i x e. (ordered .pass i x e, omega (arith, ordered .numbered i x e))) i (omega (arith, ordered .long))
+module _ (g : List ℕ) (G : Good g) (ordered arrived : List Request) (order : InOrder (roundOf g) ordered) (frames : StepFrames arrived) where
+  frames-reference : StepFrames ordered
+  frames-reference = record { step = order .step }
+
+  count-reference : (i : ℕ) → i ≤ roundOf g → countFrom (roundOf g) 0 (map arrival (take i ordered)) ≡ i
+  count-reference i h =
+      in-order (roundOf g) ordered 0 (omega (arith, order .long))
+      (λ i x e. (order .pass i x e, omega (arith, order .numbered i x e))) i (omega (arith, order .long))
       ∙ omega arith
 
-  on-A : (k : ℕ) → k ≤ roundOf g → after (sessionAt g 0) (take k listA) ≡ sessionAt g k
-  on-A k h = after-take g G listA frames-A 0 (omega arith) k ∙ ap (sessionAt g) (count-A k h)
+  on-reference : (k : ℕ) → k ≤ roundOf g → after (sessionAt g 0) (take k ordered) ≡ sessionAt g k
+  on-reference k h = after-take g G ordered frames-reference 0 (omega arith) k ∙ ap (sessionAt g) (count-reference k h)
 
-  came-A : (i : ℕ) (x : Request) → getElem? listA i ≡ some x →
-      getElem? (run (sessionAt g 0) listA) i ≡ some (written (stepped (sessionAt g (i + 1))) (x .buffer))
+  came-reference : (i : ℕ) (x : Request) → getElem? ordered i ≡ some x →
+      getElem? (run (sessionAt g 0) ordered) i ≡ some (written (stepped (sessionAt g (i + 1))) (x .buffer))
   unfolding accepts
-  came-A i x e =
-      let h : i < roundOf g = omega (arith, inside listA i x e, ordered .long) in
-      let n = ordered .numbered i x e in
-      let t : accepts (roundOf g) i (arrival x) ≡ true = rw (next-of (roundOf g) i (arrival x) (ordered .pass i x e) n h) in
-      run-at (sessionAt g 0) listA i x e
-      ∙ ap some (ap (λ s. one s x) (on-A i (omega arith)) ∙ taken g G i (omega arith) x (ordered .step i x e) t ∙ rw n)
+  came-reference i x e =
+      let h : i < roundOf g = omega (arith, inside ordered i x e, order .long) in
+      let n = order .numbered i x e in
+      let t : accepts (roundOf g) i (arrival x) ≡ true = rw (next-of (roundOf g) i (arrival x) (order .pass i x e) n h) in
+      run-at (sessionAt g 0) ordered i x e
+      ∙ ap some (ap (λ s. one s x) (on-reference i (omega arith)) ∙ taken g G i (omega arith) x (order .step i x e) t ∙ rw n)
 
-  answers-A : (i : ℕ) (x : Request) (o : Outcome) → getElem? listA i ≡ some x → getElem? (run (sessionAt g 0) listA) i ≡ some o →
+  answers-reference : (i : ℕ) (x : Request) (o : Outcome) → getElem? ordered i ≡ some x → getElem? (run (sessionAt g 0) ordered) i ≡ some o →
       Answered g (i + 1) (x .buffer) o
-  answers-A i x o e e′ =
-      let q : written (stepped (sessionAt g (i + 1))) (x .buffer) ≡ o = cc (came-A i x e) in
+  answers-reference i x o e e′ =
+      let q : written (stepped (sessionAt g (i + 1))) (x .buffer) ≡ o = cc (came-reference i x e) in
       subst (Answered g (i + 1) (x .buffer)) q (stepped-answered g G (i + 1) (x .buffer))
 
-  on-B : (i : ℕ) → after (sessionAt g 0) (take i listB) ≡ sessionAt g (countFrom (roundOf g) 0 (map arrival (take i listB)))
-  on-B = after-take g G listB frames 0 (omega arith)
+  on-retried : (i : ℕ) → after (sessionAt g 0) (take i arrived) ≡ sessionAt g (countFrom (roundOf g) 0 (map arrival (take i arrived)))
+  on-retried = after-take g G arrived frames 0 (omega arith)
 
-  module _ {i : ℕ} {x : Request} {c : ℕ} {o : Outcome} (p : Position g (sessionAt g 0) listB i x c o) where
-    before : after (sessionAt g 0) (take i listB) ≡ sessionAt g c
+  module _ {i : ℕ} {x : Request} {c : ℕ} {o : Outcome} (p : Position g (sessionAt g 0) arrived i x c o) where
+    before : after (sessionAt g 0) (take i arrived) ≡ sessionAt g c
     unfolding countOf
-    before = on-B i ∙ ap (sessionAt g) (p .count)
+    before = on-retried i ∙ ap (sessionAt g) (p .count)
 
     position : one (sessionAt g c) x ≡ o
     position =
-        let q : one (after (sessionAt g 0) (take i listB)) x ≡ o = cc (run-at (sessionAt g 0) listB i x (p .sent)) in
+        let q : one (after (sessionAt g 0) (take i arrived)) x ≡ o = cc (run-at (sessionAt g 0) arrived i x (p .sent)) in
         ap (λ s. one s x) (sym before) ∙ q
 
     within : c ≤ roundOf g
     unfolding countOf
-    within = omega (arith, count-le (roundOf g) 0 (map arrival (take i listB)) (omega arith), p .count)
+    within = omega (arith, count-le (roundOf g) 0 (map arrival (take i arrived)) (omega arith), p .count)
 
     kind : kindIn (x .frame) ≡ letterS
     kind = frames .step i x (p .sent)
 
-    accepted-B : accepted (o .0 .reply) ≡ accepts (roundOf g) c (arrival x)
-    accepted-B = rw (← position) (one-accepted g G c within x kind)
+    accepted-retried : accepted (o .0 .reply) ≡ accepts (roundOf g) c (arrival x)
+    accepted-retried = rw (← position) (one-accepted g G c within x kind)
 
-    refused-B : accepts (roundOf g) c (arrival x) ≡ false →
-        TurnedDown (causeAt c (arrival x)) (after (sessionAt g 0) (take i listB)) (x .buffer) o
-    refused-B t = rw (before, ← position) (not-taken g G c within x kind t)
+    refused-retried : accepts (roundOf g) c (arrival x) ≡ false →
+        Rejected (causeAt c (arrival x)) (after (sessionAt g 0) (take i arrived)) (x .buffer) o
+    refused-retried t = rw (before, ← position) (not-taken g G c within x kind t)
 
     module _ (t : accepts (roundOf g) c (arrival x) ≡ true) where
-      answers-B : Answered g (numberIn (x .frame)) (x .buffer) o
-      answers-B = rw (← position, taken g G c within x kind t) (stepped-answered g G (numberIn (x .frame)) (x .buffer))
+      answers-retried : Answered g (numberIn (x .frame)) (x .buffer) o
+      answers-retried = rw (← position, taken g G c within x kind t) (stepped-answered g G (numberIn (x .frame)) (x .buffer))
 
-      same-answer : SameAnswer (run (sessionAt g 0) listA) (numberIn (x .frame)) o
+      same-answer : SameAnswer (run (sessionAt g 0) ordered) (numberIn (x .frame)) o
       same-answer =
           let k = numberIn (x .frame) in
           let (low, high) = number-between (roundOf g) c (arrival x) within t in
-          let (y, e) = found listA (k - 1) (omega (arith, ordered .long)) in
+          let (y, e) = found ordered (k - 1) (omega (arith, order .long)) in
           let up : k - 1 + 1 ≡ k = omega arith in
           let x′ = stepped (sessionAt g (k - 1 + 1)) in
           let A : Answered g k (y .buffer) (written x′ (y .buffer)) = rw up (stepped-answered g G k (y .buffer)) in
@@ -264,37 +268,51 @@ module _ (g : List ℕ) (G : Good g) (listA listB : List Request) (ordered : InO
             at = k - 1;
             numbered = sym up;
             other = written x′ (y .buffer);
-            came = came-A (k - 1) y e;
-            same = answers-B .bytes ∙ sym (A .bytes);
+            came = came-reference (k - 1) y e;
+            same = answers-retried .bytes ∙ sym (A .bytes);
           }
 
-  both : TwoBenches g (sessionAt g 0) (sessionAt g 0) listA listB
+  both : ExactlyOnce g (sessionAt g 0) (sessionAt g 0) ordered arrived
   unfolding countOf
   both = record {
-    long-A = run-long (sessionAt g 0) listA;
-    long-B = run-long (sessionAt g 0) listB;
-    accepted-B = accepted-B;
-    answered-B = λ p t. (answers-B p t, same-answer p t);
-    answered-A = answers-A;
-    refused-B = refused-B;
-    on-B = on-B;
-    end-B = rw take-length at (on-B (length listB));
-    on-A = on-A;
+    long-reference = run-long (sessionAt g 0) ordered;
+    long-retried = run-long (sessionAt g 0) arrived;
+    accepted-retried = accepted-retried;
+    answered-retried = λ p t. (answers-retried p t, same-answer p t);
+    answered-reference = answers-reference;
+    refused-retried = refused-retried;
+    count-within = λ i. count-le (roundOf g) 0 (map arrival (take i arrived)) (omega arith);
+    end-within = end-within;
+    on-retried = on-retried;
+    end-retried = end-retried;
+    on-reference = on-reference;
     begun = begun-at g G;
+    done-retried = ap (λ s. s .done) end-retried ∙ done-at g _;
+    same-done = ap (λ s. s .done) same-end;
+    same-window = ap (λ s. s .window) same-end;
     listing = listing g G;
-    firsts-A = firsts-from g G listA frames-A 0 (omega arith) (roundOf g) (whole-A ∙ omega arith);
-    firsts-B = firsts-from g G listB frames 0 (omega arith) (countOf g (map arrival listB)) (omega arith);
+    firsts-reference = firsts-from g G ordered frames-reference 0 (omega arith) (roundOf g) (whole-reference ∙ omega arith);
+    firsts-retried = firsts-from g G arrived frames 0 (omega arith) (countOf g (map arrival arrived)) (omega arith);
   }
     where
-      whole-A : countFrom (roundOf g) 0 (map arrival listA) ≡ roundOf g
-      whole-A = rw take-length at (count-A (length listA) (omega (arith, ordered .long))) ∙ ordered .long
+      end-within : countFrom (roundOf g) 0 (map arrival arrived) ≤ roundOf g
+      end-within = count-le (roundOf g) 0 (map arrival arrived) (omega arith)
+
+      end-retried : after (sessionAt g 0) arrived ≡ sessionAt g (countFrom (roundOf g) 0 (map arrival arrived))
+      end-retried = rw take-length at (on-retried (length arrived))
+
+      same-end : after (sessionAt g 0) arrived ≡ after (sessionAt g 0) (take (countFrom (roundOf g) 0 (map arrival arrived)) ordered)
+      same-end = end-retried ∙ sym (on-reference _ end-within)
+
+      whole-reference : countFrom (roundOf g) 0 (map arrival ordered) ≡ roundOf g
+      whole-reference = rw take-length at (count-reference (length ordered) (omega (arith, order .long))) ∙ order .long
 
 begin-left : (s : Session) (g buffer : List ℕ) → kindIn g ≡ letterB → accepted (exchange s g buffer .0 .reply) ≡ true →
     Good g → exchange s g buffer .0 .session ≡ sessionAt g 0
 begin-left s g buffer kind e G = begin-taken s g kind buffer e .0 ∙ begin-at g G
 
--- Demand 3.
-pub two-benches : Demand3
-two-benches A₀ B₀ g bufferA bufferB listA listB kind accepted-A accepted-B ordered frames =
-    let G = good g (begin-taken A₀ g kind bufferA accepted-A .1) in
-    rw (begin-left A₀ g bufferA kind accepted-A G, begin-left B₀ g bufferB kind accepted-B G) (both g G listA listB ordered frames)
+-- Document 01's demand 3.
+pub steps-exactly-once : StepsExactlyOnce
+steps-exactly-once A₀ B₀ g bufferR bufferT ordered arrived kind accepted-reference accepted-retried order frames =
+    let G = good g (begin-taken A₀ g kind bufferR accepted-reference .1) in
+    rw (begin-left A₀ g bufferR kind accepted-reference G, begin-left B₀ g bufferT kind accepted-retried G) (both g G ordered arrived order frames)

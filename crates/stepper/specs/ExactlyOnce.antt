@@ -1,4 +1,5 @@
--- Two sessions, one round (document 01, "Two benches"): what demand 3 says, over `exchange`.
+-- Each step exactly once, whatever is sent again, damaged or lost (document 01, "Two benches", demand 3), over `exchange`. Document 01's
+-- bench A is the reference session here, bench B the retried one.
 use mathlib.Core.Bool.{Bool, true, false, cond, not, _&&_, _||_}
 use mathlib.Core.List.{List, [], _∷_, _++_, map}
 use mathlib.Core.Option.{some}
@@ -39,15 +40,15 @@ unfoldable pub isNext : ℕ → ℕ → Arrival → Bool
 unfolding passes numberIn
 isNext end c x = passes x && (eqb (numberIn (x .frame)) (c + 1) && leb (numberIn (x .frame)) end)
 
--- numbered count, at least 1
-unfoldable pub isResend : ℕ → Arrival → Bool
+-- numbered count, at least 1 (document 01's resend)
+unfoldable pub isRetransmission : ℕ → Arrival → Bool
 unfolding passes numberIn
-isResend c x = passes x && (eqb (numberIn (x .frame)) c && leb 1 (numberIn (x .frame)))
+isRetransmission c x = passes x && (eqb (numberIn (x .frame)) c && leb 1 (numberIn (x .frame)))
 
--- accepted at the count c: as the next step, or as a resend
+-- accepted at the count c: as the next step, or as a retransmission
 unfoldable pub accepts : ℕ → ℕ → Arrival → Bool
-unfolding isNext isResend
-accepts end c x = isNext end c x || isResend c x
+unfolding isNext isRetransmission
+accepts end c x = isNext end c x || isRetransmission c x
 
 -- the count after a frame, and after a list of frames
 unfoldable pub counted : ℕ → ℕ → Arrival → ℕ
@@ -104,7 +105,7 @@ unfoldable pub answerAt : List ℕ → ℕ → List ℕ
 unfolding different padded answerBytes replyAt windowAfter
 answerAt g k = answerBytes (replyAt g k) (different (windowAfter g k)) k (padded (windowAfter g k))
 
--- The two sessions (document 01's benches A and B).
+-- The two sessions: the reference one (document 01's bench A) and the retried one (bench B).
 
 -- a frame, and the buffer that is lent for its answer
 pub record Request : Type 0 where
@@ -141,14 +142,14 @@ BeginAccepted =
     (s : Session) (g buffer : List ℕ) → kindIn g ≡ letterB → 40 ≤ length buffer →
     accepted (exchange s g buffer .0 .reply) ≡ beginOk g
 
--- A's list: for each number from 1 to `end`, in order, one step frame that passes
+-- the reference session's list: for each number from 1 to `end`, in order, one step frame that passes
 pub record InOrder (end : ℕ) (list : List Request) : Type 0 where
   pub long : length list ≡ end
   pub step : (i : ℕ) (x : Request) → getElem? list i ≡ some x → kindIn (x .frame) ≡ letterS
   pub pass : (i : ℕ) (x : Request) → getElem? list i ≡ some x → passes (arrival x) ≡ true
   pub numbered : (i : ℕ) (x : Request) → getElem? list i ≡ some x → numberIn (x .frame) ≡ i + 1
 
--- B's list: any frames whose byte 4 is S
+-- the retried session's list: any frames whose byte 4 is S
 pub record StepFrames (list : List Request) : Type 0 where
   pub step : (i : ℕ) (x : Request) → getElem? list i ≡ some x → kindIn (x .frame) ≡ letterS
 
@@ -165,8 +166,8 @@ pub record Answered (g : List ℕ) (k : ℕ) (buffer : List ℕ) (o : Outcome) :
   pub bytes : take 40 (o .1) ≡ answerAt g k
   pub rest : drop 40 (o .1) ≡ drop 40 buffer
 
--- The frame was refused for a cause: the session and the bytes past forty are what they were, and so is a buffer under forty bytes.
-pub record TurnedDown (cause : Cause) (s : Session) (buffer : List ℕ) (o : Outcome) : Type 0 where
+-- The frame was refused (document 01's "turned down") for a cause: the session and the bytes past forty are what they were, and so is a buffer under forty bytes.
+pub record Rejected (cause : Cause) (s : Session) (buffer : List ℕ) (o : Outcome) : Type 0 where
   pub reply : o .0 .reply ≡ Refused cause
   pub session : o .0 .session ≡ s
   pub short : length buffer < 40 → o .1 ≡ buffer
@@ -194,36 +195,46 @@ firsts end c (x ∷ l) [] = []
 firsts end c (x ∷ l) (o ∷ outcomes) =
     cond (isNext end c (arrival x)) (o .0 .session ∷ firsts end (c + 1) l outcomes) (firsts end c l outcomes)
 
--- Demand 3, where the begin frame g left the sessions A and B, and the lists listA and listB followed.
-pub record TwoBenches (g : List ℕ) (A B : Session) (listA listB : List Request) : Type 0 where
-  -- 1. each frame comes to an outcome, and B accepts just what the count accepts
-  pub long-A : length (run A listA) ≡ length listA
-  pub long-B : length (run B listB) ≡ length listB
-  pub accepted-B : {i : ℕ} {x : Request} {c : ℕ} {o : Outcome} → Position g B listB i x c o →
+-- Document 01's demand 3, where the begin frame g left the two sessions; then the reference session got the list `ordered`, and the retried
+-- one the list `arrived`.
+pub record ExactlyOnce (g : List ℕ) (reference retried : Session) (ordered arrived : List Request) : Type 0 where
+  -- 1. each frame comes to an outcome, and the retried session accepts just what the count accepts
+  pub long-reference : length (run reference ordered) ≡ length ordered
+  pub long-retried : length (run retried arrived) ≡ length arrived
+  pub accepted-retried : {i : ℕ} {x : Request} {c : ℕ} {o : Outcome} → Position g retried arrived i x c o →
       accepted (o .0 .reply) ≡ accepts (roundOf g) c (arrival x)
-  -- 2. and answers it with the bytes for W_k, which are those that A got for k
-  pub answered-B : {i : ℕ} {x : Request} {c : ℕ} {o : Outcome} → Position g B listB i x c o →
-      accepts (roundOf g) c (arrival x) ≡ true → Answered g (numberIn (x .frame)) (x .buffer) o × SameAnswer (run A listA) (numberIn (x .frame)) o
-  pub answered-A : (i : ℕ) (x : Request) (o : Outcome) → getElem? listA i ≡ some x → getElem? (run A listA) i ≡ some o →
+  -- 2. and answers it with the bytes for W_k, which are those that the reference session gave for k
+  pub answered-retried : {i : ℕ} {x : Request} {c : ℕ} {o : Outcome} → Position g retried arrived i x c o →
+      accepts (roundOf g) c (arrival x) ≡ true →
+      Answered g (numberIn (x .frame)) (x .buffer) o × SameAnswer (run reference ordered) (numberIn (x .frame)) o
+  pub answered-reference : (i : ℕ) (x : Request) (o : Outcome) → getElem? ordered i ≡ some x → getElem? (run reference ordered) i ≡ some o →
       Answered g (i + 1) (x .buffer) o
   -- 3. any other is refused for its cause, and leaves the session
-  pub refused-B : {i : ℕ} {x : Request} {c : ℕ} {o : Outcome} → Position g B listB i x c o →
-      accepts (roundOf g) c (arrival x) ≡ false → TurnedDown (causeAt c (arrival x)) (after B (take i listB)) (x .buffer) o
-  -- 4. after i frames, and after them all, B stands at the count; after k frames A stands at k; and such a session has begun
-  pub on-B : (i : ℕ) → after B (take i listB) ≡ sessionAt g (countOf g (map arrival (take i listB)))
-  pub end-B : after B listB ≡ sessionAt g (countOf g (map arrival listB))
-  pub on-A : (k : ℕ) → k ≤ roundOf g → after A (take k listA) ≡ sessionAt g k
+  pub refused-retried : {i : ℕ} {x : Request} {c : ℕ} {o : Outcome} → Position g retried arrived i x c o →
+      accepts (roundOf g) c (arrival x) ≡ false → Rejected (causeAt c (arrival x)) (after retried (take i arrived)) (x .buffer) o
+  -- 4. after i frames, and after them all, the retried session stands at the count, which never exceeds a(n); after k frames the reference
+  -- session stands at k; and such a session has begun
+  pub count-within : (i : ℕ) → countOf g (map arrival (take i arrived)) ≤ roundOf g
+  pub end-within : countOf g (map arrival arrived) ≤ roundOf g
+  pub on-retried : (i : ℕ) → after retried (take i arrived) ≡ sessionAt g (countOf g (map arrival (take i arrived)))
+  pub end-retried : after retried arrived ≡ sessionAt g (countOf g (map arrival arrived))
+  pub on-reference : (k : ℕ) → k ≤ roundOf g → after reference (take k ordered) ≡ sessionAt g k
   pub begun : (k : ℕ) → k ≤ roundOf g → hasBegun (sessionAt g k) ≡ true
-  -- 5. W_1 … W_a(n) are the weak orders of n in the rule's form, each once, and the last is the start window; A's sessions
-  -- after its frames hold them in order, and so do B's right after each first acceptance, as far as the count came
+  -- so, at the count k after its list, the retried session's steps done are k, and they and its window are those of the reference
+  -- session after k steps
+  pub done-retried : after retried arrived .done ≡ countOf g (map arrival arrived)
+  pub same-done : after retried arrived .done ≡ after reference (take (countOf g (map arrival arrived)) ordered) .done
+  pub same-window : after retried arrived .window ≡ after reference (take (countOf g (map arrival arrived)) ordered) .window
+  -- 5. W_1 … W_a(n) are the weak orders of n in the rule's form, each once, and the last is the start window; the reference session's
+  -- states after its frames hold them in order, and so do the retried one's right after each first acceptance, as far as the count came
   pub listing : Tour (WeakOrder (lengthIn g) (ruleIn g)) (step (ruleOf (ruleIn g))) (roundOf g) (startOf g)
-  pub firsts-A : firsts (roundOf g) 0 listA (run A listA) ≡ map (sessionAt g) (numbersAfter 0 (roundOf g))
-  pub firsts-B : firsts (roundOf g) 0 listB (run B listB) ≡ map (sessionAt g) (numbersAfter 0 (countOf g (map arrival listB)))
+  pub firsts-reference : firsts (roundOf g) 0 ordered (run reference ordered) ≡ map (sessionAt g) (numbersAfter 0 (roundOf g))
+  pub firsts-retried : firsts (roundOf g) 0 arrived (run retried arrived) ≡ map (sessionAt g) (numbersAfter 0 (countOf g (map arrival arrived)))
 
 -- A begin frame was sent to two sessions, whatever they were, and accepted by both; then the two lists.
-abbrev pub Demand3 : Type 0
-Demand3 =
-    (A₀ B₀ : Session) (g bufferA bufferB : List ℕ) (listA listB : List Request) → kindIn g ≡ letterB →
-    accepted (exchange A₀ g bufferA .0 .reply) ≡ true → accepted (exchange B₀ g bufferB .0 .reply) ≡ true →
-    InOrder (roundOf g) listA → StepFrames listB →
-    TwoBenches g (exchange A₀ g bufferA .0 .session) (exchange B₀ g bufferB .0 .session) listA listB
+abbrev pub StepsExactlyOnce : Type 0
+StepsExactlyOnce =
+    (R₀ T₀ : Session) (g bufferR bufferT : List ℕ) (ordered arrived : List Request) → kindIn g ≡ letterB →
+    accepted (exchange R₀ g bufferR .0 .reply) ≡ true → accepted (exchange T₀ g bufferT .0 .reply) ≡ true →
+    InOrder (roundOf g) ordered → StepFrames arrived →
+    ExactlyOnce g (exchange R₀ g bufferR .0 .session) (exchange T₀ g bufferT .0 .session) ordered arrived
