@@ -46,6 +46,7 @@ host-test: $(TESTS) target/host/example target/bin/round
 	@target/host/example | cmp - host/example.out
 	@host/readme.sh
 	@for t in $(TESTS); do $$t || exit 1; done
+	@host/lost.sh
 
 target/host/%: host/%.c $(wildcard host/*.h) host/reference.c host/session_model.c include/wko.h $(LIB)
 	@mkdir -p target/host

@@ -31,6 +31,9 @@ loop-less c = search needs
 loop-again : tie.Need-loop-again Inv-loop μ-loop
 loop-again c = search needs
 
+report-rest-requires : tie.Need-report-rest-requires Inv-loop μ-loop
+report-rest-requires c κs = search needs
+
 returns-2 : tie.Need-returns-2 Inv-loop μ-loop
 returns-2 c = search needs
 
@@ -47,4 +50,5 @@ main-spec =
     add-records
     loop-less
     loop-again
+    report-rest-requires
     returns-2)
