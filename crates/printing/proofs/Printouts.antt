@@ -23,7 +23,7 @@ use Rattle.refusals.specs.declared.Cause.{Cause}
 use Rattle.refusals.specs.declared.Cause.the-variants.{WindowLength, RuleNumber, NotWeakOrder, LevelSetting, SheetMalformed}
 use Rattle.frames.specs.Level.{settingOk}
 use Rattle.sheets.specs.declared.judge.Round.{Round}
-use Rattle.sheets.specs.declared.judge.Verdict.the-variants.{Accepted}
+use Rattle.refusals.specs.declared.Verdict.the-variants.{Accepted}
 use Rattle.sheets.specs.declared.judge.Judged.{Judged}
 use Rattle.printing.specs.declared.Printing.{Printing}
 use Rattle.sheets.specs.Sheet.{RawSheet, parse}

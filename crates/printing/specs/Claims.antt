@@ -8,7 +8,7 @@ use lib.ListN.{length, take}
 use Rattle.ranking.specs.Counts.{a}
 use Rattle.successors.specs.Rules.{ruleOf, step}
 use Rattle.universal_cycle.specs.Round.{WeakOrder, Tour}
-use Rattle.sheets.specs.declared.judge.Verdict.the-variants.{Accepted}
+use Rattle.refusals.specs.declared.Verdict.the-variants.{Accepted}
 use Rattle.printing.specs.declared.Printing.{Printing}
 use Rattle.sheets.specs.Sheet.{RawSheet, IsText, parse}
 use Rattle.sheets.specs.Judgement.{judgedText}

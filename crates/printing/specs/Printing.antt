@@ -15,8 +15,8 @@ use Rattle.frames.specs.Level.{levelOf}
 use Rattle.frames.specs.Fields.{ascii}
 use Rattle.frames.specs.Answer.{newest}
 use Rattle.sheets.specs.declared.judge.Round.{Round}
-use Rattle.sheets.specs.declared.judge.Verdict.{Verdict}
-use Rattle.sheets.specs.declared.judge.Verdict.the-variants.{Accepted, Refused}
+use Rattle.refusals.specs.declared.Verdict.{Verdict}
+use Rattle.refusals.specs.declared.Verdict.the-variants.{Accepted, Refused}
 use Rattle.sheets.specs.declared.judge.Judged.{Judged}
 use Rattle.printing.specs.declared.Printing.{Printing}
 use Rattle.printing.specs.declared.Page.{Page}

@@ -13,8 +13,8 @@ ghost use Rattle.printing.specs.Writing.{Wrote, Counts};
 ghost use Rattle.printing.specs.Printing.{lineText, lineCount, opening, started, onward, lastLine, nextPage};
 use frames::level;
 use frames::level::Setting;
+use refusals::Verdict;
 use sheets::judge::Judged;
-use sheets::judge::Verdict;
 
 // Where the printing of a round stands: the window after `done` of `last` steps.
 pub struct Printing {

@@ -11,7 +11,7 @@ fn digit(symbol: u8) -> u8 {
 fn next_window(rule: u8, w: [u8; 16], n: usize) -> [u8; 16] {
     match successors::next_symbol(rule, w, n) {
         Next::Symbol(s) => weak_orders::shift(w, n, s),
-        Next::NotWeakOrder => w,
+        Next::Refused(_) => w,
     }
 }
 
@@ -37,8 +37,8 @@ fn print_cycle(rule: u8, start: [u8; 16], n: usize) {
 
 fn print_cycles(rule: u8, symbol: u8) {
     let same = [symbol; 16];
-    print_cycle(rule, weak_orders::load(&same[..3]), 3);
-    print_cycle(rule, weak_orders::load(&same[..4]), 4);
+    print_cycle(rule, weak_orders::load(&same[..3], 3), 3);
+    print_cycle(rule, weak_orders::load(&same[..4], 4), 4);
 }
 
 fn main() {

@@ -1,25 +1,34 @@
--- When the searches find something. Assumes nothing.
-use mathlib.Core.Bool.{cond}
+-- When the search for a window finds one. Assumes nothing.
+use mathlib.Core.Bool.{true, false, cond}
 use mathlib.Core.Path.{_≡_}
 use Prim.Native.Nat.{ℕ, _≤_, _<_}
 use native.Mathlib.Omega.{arith}
 use lib.Dec.{leb}
-use borrow.Author.Tests.{leb-true, le-leb}
-use Rattle.weak_orders.specs.Says.{Says}
+use borrow.Author.Tests.{le-leb, lt-ltb, le-ltb}
+use Rattle.refusals.specs.declared.Cause.the-variants.{WindowLength, NoSuchPlace}
+use Rattle.refusals.specs.declared.Verdict.the-variants.{Accepted, Refused}
+use Rattle.weak_orders.specs.Window.{isLength}
 use Rattle.weak_orders.proofs.FormTests.{says-length}
-use Rattle.weak_orders.proofs.Tests.{by-test, says-as, says-and, says-lt}
-use Rattle.ranking.specs.Answers.{isPlace}
+use Rattle.ranking.specs.Answers.{judgedPlace}
 use Rattle.ranking.specs.Counts.{a}
 
-pub says-place : (n k : ℕ) → Says (isPlace n k) ((1 ≤ n) × (n ≤ 16) × (k < a n))
-unfolding isPlace
-says-place n k = says-as (says-and (says-length n) (says-lt k (a n))) (λ (x, y). (x .0, x .1, y)) (λ (x, y, z). ((x, y), z))
+module _ (n k : ℕ) where
+  pub place-length : isLength n ≡ false → judgedPlace n k ≡ Refused WindowLength
+  unfolding judgedPlace
+  place-length e = rw e
 
--- the count that ends the places, as code has it
-pub within-count : (n k r : ℕ) → r ≡ cond (leb n 16) (a n) 0 → k < r → (n ≤ 16) × (k < a n)
-within-count n k r e h = by-test (leb n 16)
-    (λ t. (leb-true n 16 t, omega (arith, rw t at e)))
-    (λ t. absurd (omega (arith, rw t at e)))
+  -- past test 6; r is the count that ends the places, as code has it
+  module _ (long : isLength n ≡ true) (r : ℕ) (e : r ≡ cond (leb n 16) (a n) 0) where
+    counted : r ≡ a n
+    counted = rw (le-leb n 16 (says-length n .to long .1)) at e
 
-pub past-count : (n k r : ℕ) → r ≡ cond (leb n 16) (a n) 0 → r ≤ k → ¬ ((1 ≤ n) × (n ≤ 16) × (k < a n))
-past-count n k r e h (l, m, lt) = let t = le-leb n 16 m in omega (arith, rw t at e)
+    pub place-past : r ≤ k → judgedPlace n k ≡ Refused NoSuchPlace
+    unfolding judgedPlace
+    place-past h = rw (long, le-ltb k (a n) (omega (arith, counted)))
+
+    pub place-below : k < r → k < a n
+    place-below h = omega (arith, counted)
+
+    pub place-within : k < r → judgedPlace n k ≡ Accepted
+    unfolding judgedPlace
+    place-within h = rw (long, lt-ltb k (a n) (place-below h))

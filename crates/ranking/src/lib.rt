@@ -12,6 +12,9 @@ ghost use Rattle.ranking.specs.Answers.{placed, located};
 ghost use Rattle.ranking.specs.Counts.{L, a, sum, ways, waysFrom, Found};
 ghost use Rattle.ranking.specs.Dictionary.{completionsWith, place, windowAt};
 ghost use Rattle.ranking.specs.Tables.{Entries};
+use refusals::Cause;
+use refusals::Verdict;
+use weak_orders::WindowAnswer;
 
 mod tables;
 
@@ -252,46 +255,37 @@ fn window_of(n: usize, place: u64) -> [u8; 16]
     window
 }
 
-// The place of a window, or that it has none.
+// The place of a window, or why it has none.
 pub enum Placed {
     At(u64),
-    NotHeightForm,
+    Refused(Cause),
 }
 
 // The place of the first n symbols of w in dictionary order, where they are a height window.
 pub fn place(w: [u8; 16], n: usize) -> Placed
-    ensures { λ r. ⌜ r ≡ placed n w ⌝ }
+    ensures { λ r. ⌜ r ≡ placed n (take n w) ⌝ }
 {
+    if !weak_orders::is_length(n) {
+        return Placed::Refused(Cause::WindowLength);
+    }
     if !weak_orders::is_height(w, n) {
-        return Placed::NotHeightForm;
+        return Placed::Refused(Cause::NotWeakOrder);
     }
     Placed::At(place_of(w, n))
 }
 
-// The window at a place; not found, and sixteen zeros, where there is none.
-pub struct Located {
-    pub found: bool,
-    pub window: [u8; 16],
-}
-
-// The height window of n at a place. Past 16 there are no places.
-pub fn window_at(n: usize, place: u64) -> Located
+// The height window of n at a place.
+pub fn window_at(n: usize, place: u64) -> WindowAnswer
     ensures { λ r. ⌜ r ≡ located n place ⌝ }
 {
-    if n == 0 {
-        return Located {
-            found: false,
-            window: [0u8; 16],
-        };
+    if !weak_orders::is_length(n) {
+        return WindowAnswer::refused(Cause::WindowLength);
     }
     if weak_order_count(n) <= place {
-        return Located {
-            found: false,
-            window: [0u8; 16],
-        };
+        return WindowAnswer::refused(Cause::NoSuchPlace);
     }
-    Located {
-        found: true,
+    WindowAnswer {
+        verdict: Verdict::Accepted,
         window: window_of(n, place),
     }
 }

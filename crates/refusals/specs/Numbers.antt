@@ -1,9 +1,11 @@
--- Document 01's numbers of the refusals ("Turned down").
-use Prim.Native.Nat.{ℕ}
+-- Document 01's numbers of the refusals ("Turned down"), and what a direct call returns for them.
+use Prim.Native.Nat.{ℕ, _+_}
 use Rattle.refusals.specs.declared.Cause.{Cause}
 use Rattle.refusals.specs.declared.Cause.the-variants.{ShortBuffer, FrameLength, FrameHeader, FrameKind, ReservedByte}
 use Rattle.refusals.specs.declared.Cause.the-variants.{WindowLength, RuleNumber, NotWeakOrder, LevelSetting, NotBegun}
 use Rattle.refusals.specs.declared.Cause.the-variants.{StepNumber, RoundFinished, NoSuchPlace, SheetMalformed}
+use Rattle.refusals.specs.declared.Verdict.{Verdict}
+use Rattle.refusals.specs.declared.Verdict.the-variants.{Accepted, Refused}
 
 abbrev pub causeNumber : Cause → ℕ
 causeNumber ShortBuffer = 1
@@ -20,3 +22,12 @@ causeNumber StepNumber = 11
 causeNumber RoundFinished = 12
 causeNumber NoSuchPlace = 13
 causeNumber SheetMalformed = 14
+
+-- "256 + number means refused"
+abbrev pub refusal : Cause → ℕ
+refusal c = 256 + causeNumber c
+
+-- "0 means done"
+abbrev pub returned : Verdict → ℕ
+returned Accepted = 0
+returned (Refused c) = refusal c

@@ -21,6 +21,12 @@ pub enum Cause {
     SheetMalformed,
 }
 
+// Whether a call or a sheet is accepted. A window that goes with it stands beside it, since an enum cannot hold an array.
+pub enum Verdict {
+    Accepted,
+    Refused(Cause),
+}
+
 // The table's number of a cause.
 pub fn number(cause: Cause) -> u8
     ensures { λ r. ⌜ r ≡ causeNumber cause ⌝ }

@@ -2,8 +2,8 @@
 // What is printed is the library's, page by page. A read or a write that fails ends the run, and standard error says so.
 use libc::STDOUT_FILENO;
 use printing::Printing;
+use refusals::Verdict;
 use sheets::judge;
-use sheets::judge::Verdict;
 
 // Whether the page was written. If not, that is said, and nothing may follow the gap.
 fn write(page: &[u8]) -> bool {

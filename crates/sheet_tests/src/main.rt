@@ -6,8 +6,8 @@ ghost use lib.ListN.{length};
 use libc::STDIN_FILENO;
 use libc::STDOUT_FILENO;
 use printing::Printing;
+use refusals::Verdict;
 use sheets::judge;
-use sheets::judge::Verdict;
 
 fn print_opening(verdict: Verdict) {
     let mut page = [0u8; 384];

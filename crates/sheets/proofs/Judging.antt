@@ -20,7 +20,7 @@ use Rattle.successors.proofs.RuleNumbers.{form-bound}
 use Rattle.refusals.specs.declared.Cause.the-variants.{WindowLength, RuleNumber, NotWeakOrder, LevelSetting, SheetMalformed}
 use Rattle.frames.specs.declared.level.Setting.{Setting}
 use Rattle.frames.specs.Level.{settingOk}
-use Rattle.sheets.specs.declared.judge.Verdict.the-variants.{Accepted}
+use Rattle.refusals.specs.declared.Verdict.the-variants.{Accepted}
 use Rattle.sheets.specs.Sheet.{RawSheet, parse}
 use Rattle.sheets.specs.Held.{sheetHeld, parsedOf}
 use Rattle.sheets.specs.declared.sheet.Parsed.{Parsed}

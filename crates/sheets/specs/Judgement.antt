@@ -13,7 +13,7 @@ use Rattle.refusals.specs.declared.Cause.the-variants.{WindowLength, RuleNumber
 use Rattle.frames.specs.declared.level.Setting.{Setting}
 use Rattle.frames.specs.Level.{settingOk}
 use Rattle.sheets.specs.declared.judge.Round.{Round}
-use Rattle.sheets.specs.declared.judge.Verdict.the-variants.{Accepted, Refused}
+use Rattle.refusals.specs.declared.Verdict.the-variants.{Accepted, Refused}
 use Rattle.sheets.specs.declared.judge.Judged.{Judged}
 use Rattle.sheets.specs.declared.judge.SettingTest.{SettingTest}
 use Rattle.sheets.specs.declared.sheet.Sheet.{Sheet}

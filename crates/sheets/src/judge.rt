@@ -11,6 +11,7 @@ use crate::sheet::Sheet;
 use frames::level;
 use frames::level::Setting;
 use refusals::Cause;
+use refusals::Verdict;
 
 // What a sheet asks for: the level setting and the start window of a round of n symbols under a rule.
 pub struct Round {
@@ -18,11 +19,6 @@ pub struct Round {
     pub rule: u8,
     pub setting: Setting,
     pub window: [u8; 16],
-}
-
-pub enum Verdict {
-    Accepted,
-    Refused(Cause),
 }
 
 // The round stands beside the verdict, since an enum cannot hold an array. A refused sheet has none, in every field zero.

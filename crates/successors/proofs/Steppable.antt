@@ -1,14 +1,24 @@
--- What it says that a window can be stepped. Assumes nothing.
-use mathlib.Core.Bool.{true}
+-- What it says that a window can be stepped, and that it is accepted. Assumes nothing.
+use mathlib.Core.Bool.{true, cond, not, _&&_}
 use mathlib.Core.List.{List}
-use mathlib.Core.Path.{_≡_}
-use Prim.Native.Nat.{ℕ}
-use lib.ListN.{take}
+use mathlib.Core.Path.{_≡_, refl}
+use Prim.Native.Nat.{ℕ, _≤_}
+use native.Mathlib.Omega.{arith}
+use lib.Dec.{eqb}
+use lib.ListN.{length, take}
+use lib.Seq.{length-take-le}
+use borrow.Author.Tests.{eq-eqb}
+use Rattle.refusals.specs.declared.Cause.the-variants.{RuleNumber}
+use Rattle.refusals.specs.declared.Verdict.the-variants.{Accepted, Refused}
 use Rattle.weak_orders.specs.Says.{Says}
-use Rattle.weak_orders.specs.Window.{isLength}
-use Rattle.weak_orders.proofs.Tests.{says-and, says-itself}
-use Rattle.successors.specs.NextSymbol.{steppable}
-use Rattle.successors.specs.Rules.{inForm, isRule}
+use Rattle.weak_orders.specs.Converted.{judgedIn}
+use Rattle.weak_orders.specs.Window.{isLength, padded, loaded}
+use Rattle.weak_orders.proofs.FormTests.{says-length}
+use Rattle.weak_orders.proofs.Judged.{refused, loaded-judged, judged-whole, by-loaded}
+use Rattle.weak_orders.proofs.Tests.{_∈_, by-test, says-and, says-itself}
+use Rattle.successors.specs.NextSymbol.{steppable, stepOrStay, judged, symbolBy, nextSymbol}
+use Rattle.successors.specs.Rules.{ruleOf, inForm, isRule, step}
+use Rattle.successors.proofs.RuleNumbers.{form-bound}
 
 -- each of the three tests passes
 abbrev pub Steppable : ℕ → ℕ → List ℕ → Type 0
@@ -17,3 +27,49 @@ Steppable rule n w = (isRule rule ≡ true) × ((isLength n ≡ true) × (inForm
 pub says-steppable : (rule n : ℕ) (w : List ℕ) → Says (steppable rule n w) (Steppable rule n w)
 unfolding steppable
 says-steppable rule n w = says-and (says-itself (isRule rule)) (says-and (says-itself (isLength n)) (says-itself (inForm rule (take n w))))
+
+pub step-made : (rule n : ℕ) (w : List ℕ) → steppable rule n w ≡ true → stepOrStay rule n w ≡ padded (step (ruleOf rule) (take n w))
+unfolding stepOrStay
+step-made rule n w t = rw t
+
+-- the first n symbols of an array are accepted just where it can be stepped
+module _ (rule n : ℕ) (w : List ℕ) (l : length w ≡ 16) where
+  whole : isLength n ≡ true → eqb (length (take n w)) n ≡ true
+  whole long = let (pos, le) = says-length n .to long in eq-eqb _ _ (length-take-le n w (omega arith))
+
+  pub accepted : Steppable rule n w → judged rule n (take n w) ≡ Accepted
+  unfolding judged
+  accepted (known, (long, form)) = rw (long, known, whole long, form)
+
+  pub steppable-of : judged rule n (take n w) ≡ Accepted → Steppable rule n w
+  unfolding judged
+  steppable-of e =
+      by-test (isLength n) (λ a.
+      by-test (isRule rule) (λ b.
+      by-test (inForm rule (take n w)) (λ f. (b, (a, f)))
+      (λ f. absurd (refused (rw (a, b, whole a, f) at e))))
+      (λ b. absurd (refused (rw (a, b) at e))))
+      (λ a. absurd (refused (rw a at e)))
+
+-- the rule's test between the two of a window in a form
+by-form : (rule n : ℕ) (u : List ℕ) →
+    judged rule n u ≡ cond (isLength n && not (isRule rule)) (Refused RuleNumber) (judgedIn (inForm rule) n u)
+unfolding judged judgedIn
+by-form rule n u = by-test (isLength n) (λ a. by-test (isRule rule) (λ b. rw (a, b)) (λ b. rw (a, b))) (λ a. rw a)
+
+-- a slice is judged as the definition says, also where it is not n long
+pub judged-loaded : (rule n : ℕ) (s : List ℕ) → judged rule n (take n (loaded n s)) ≡ judged rule n s
+judged-loaded rule n s = rw (by-form rule n (take n (loaded n s)), by-form rule n s, loaded-judged (inForm rule) n s low)
+  where
+    low : (w : List ℕ) (x : ℕ) → length w ≡ 16 → n ≤ 16 → inForm rule (take n w) ≡ true → x ∈ take n w → x ≤ 16
+    low w x l le t m = omega (arith, form-bound rule (take n w) t x m, length-take-le n w (omega arith))
+
+-- and gets the symbol of its own window
+pub loaded-symbol : (rule n : ℕ) (s : List ℕ) → nextSymbol rule n (take n (loaded n s)) ≡ nextSymbol rule n s
+unfolding nextSymbol symbolBy
+loaded-symbol rule n s = by-loaded (judged rule n) (λ v u. symbolBy v (ruleOf rule u)) n s (judged-loaded rule n s) whole-slice (λ c u v. refl)
+  where
+    whole-slice : judged rule n s ≡ Accepted → (n ≤ 16) × (length s ≡ n)
+    whole-slice e = by-test (isLength n && not (isRule rule))
+        (λ t. absurd (refused (rw (by-form rule n s, t) at e)))
+        (λ t. judged-whole (inForm rule) n s (rw (by-form rule n s, t) at e))

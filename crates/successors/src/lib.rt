@@ -1,5 +1,5 @@
 // The three successor rules of 002: the symbol that follows a window, and one step.
-// Rests on weak_orders for windows, their forms and their tables of counts. That the steps of a rule go through every weak order once
+// Rests on weak_orders for windows, their forms and their tables of counts, and on refusals for causes. That the steps of a rule go through every weak order once
 // is shown in universal_cycle; this crate knows no session.
 // A window passes by value, as an array of 16 with n beside.
 mod height_rules;
@@ -9,12 +9,14 @@ mod rotations;
 use height_rules::successor2;
 use height_rules::successor3;
 use rank_rule::successor1;
+use refusals::Cause;
+use refusals::Verdict;
 ghost use mathlib.Core.Bool.{true, _&&_};
 ghost use mathlib.Core.Path.{_≡_};
 ghost use lib.ListN.{take};
-ghost use Rattle.weak_orders.specs.Window.{isLength, padded};
-ghost use Rattle.successors.specs.NextSymbol.{steppable, nextSymbol};
-ghost use Rattle.successors.specs.Rules.{inForm, isRule, ruleOf, step};
+ghost use Rattle.weak_orders.specs.Window.{isLength};
+ghost use Rattle.successors.specs.NextSymbol.{steppable, judged, nextSymbol, stepOrStay};
+ghost use Rattle.successors.specs.Rules.{inForm, isRule, ruleOf};
 
 // The first n symbols are a weak order of n in the rule's form: ranks for rule 1, heights for the others.
 pub fn in_form(rule: u8, w: [u8; 16], n: usize) -> bool
@@ -54,27 +56,48 @@ pub fn can_step(rule: u8, w: [u8; 16], n: usize) -> bool
     is_rule(rule) & in_form(rule, w, n)
 }
 
-// The symbol that follows, or that there is no such rule or no such window under it.
+// Tests 6, 7 and 8 of a window under a rule.
+pub fn judge(rule: u8, w: [u8; 16], n: usize) -> Verdict
+    ensures { λ r. ⌜ r ≡ judged rule n (take n w) ⌝ }
+{
+    if !weak_orders::is_length(n) {
+        return Verdict::Refused(Cause::WindowLength);
+    }
+    if !is_rule(rule) {
+        return Verdict::Refused(Cause::RuleNumber);
+    }
+    if !in_form(rule, w, n) {
+        return Verdict::Refused(Cause::NotWeakOrder);
+    }
+    Verdict::Accepted
+}
+
+// The symbol that follows, or why there is none.
 pub enum Next {
     Symbol(u8),
-    NotWeakOrder,
+    Refused(Cause),
 }
 
 pub fn next_symbol(rule: u8, w: [u8; 16], n: usize) -> Next
-    ensures { λ r. ⌜ r ≡ nextSymbol rule n w ⌝ }
+    ensures { λ r. ⌜ r ≡ nextSymbol rule n (take n w) ⌝ }
 {
-    if !can_step(rule, w, n) {
-        return Next::NotWeakOrder;
+    let verdict = judge(rule, w, n);
+    match verdict {
+        Verdict::Accepted => {
+            let s = successor(rule, w, n);
+            Next::Symbol(s)
+        }
+        Verdict::Refused(cause) => Next::Refused(cause),
     }
-    let s = successor(rule, w, n);
-    Next::Symbol(s)
 }
 
-// One step of a window that the caller has tested: the oldest symbol is dropped and the rule's appended.
+// One step: the oldest symbol is dropped and the rule's appended. A window that cannot step stays as it is.
 pub fn step(rule: u8, w: [u8; 16], n: usize) -> [u8; 16]
-    requires { ⌜ steppable rule n w ≡ true ⌝ }
-    ensures { λ r. ⌜ r ≡ padded (step (ruleOf rule) (take n w)) ⌝ }
+    ensures { λ r. ⌜ r ≡ stepOrStay rule n w ⌝ }
 {
+    if !can_step(rule, w, n) {
+        return w;
+    }
     let s = successor(rule, w, n);
     weak_orders::shift(w, n, s)
 }

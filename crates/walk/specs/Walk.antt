@@ -1,13 +1,11 @@
--- The last symbol after a number of steps.
-use mathlib.Core.Bool.{cond}
+-- The newest symbol after a number of steps.
 use mathlib.Core.List.{List}
 use Prim.Native.Nat.{ℕ, _-_}
-use lib.ListN.{getD, take}
-use Rattle.weak_orders.specs.Window.{iter}
-use Rattle.successors.specs.NextSymbol.{steppable}
-use Rattle.successors.specs.Rules.{ruleOf, step}
+use lib.ListN.{getD}
+use Rattle.weak_orders.specs.Window.{iter, loaded}
+use Rattle.successors.specs.NextSymbol.{judged, symbolBy, nextNumber, stepOrStay}
 
--- from the first n of an array of sixteen
+-- from the window in a slice; tested, and told, as the next symbol is
 unfoldable pub walked : ℕ → ℕ → List ℕ → ℕ → ℕ
-walked n rule w count =
-    cond (steppable rule n w) (getD (iter (step (ruleOf rule)) count (take n w)) (n - 1) 0) 256
+unfolding symbolBy judged
+walked n rule w count = nextNumber (symbolBy (judged rule n w) (getD (iter (stepOrStay rule n) count (loaded n w)) (n - 1) 0))

@@ -12,3 +12,4 @@ pub mod Tallies
 pub mod Bits
 pub mod Padded
 pub mod FormTests
+pub mod Judged

@@ -1,9 +1,13 @@
--- What the conversions answer for every array and n.
-use mathlib.Core.Bool.{Bool, cond, _&&_}
+-- Windows judged and converted, for every array and n (document 01, "Turned down": direct calls).
+use mathlib.Core.Bool.{Bool, cond, not, _&&_}
 use mathlib.Core.List.{List}
 use Prim.Native.Nat.{ℕ}
-use lib.ListN.{take, replicate}
-use Rattle.weak_orders.specs.declared.Converted.{Converted}
+use lib.Dec.{eqb}
+use lib.ListN.{length, take, replicate}
+use Rattle.refusals.specs.declared.Cause.the-variants.{WindowLength, NotWeakOrder}
+use Rattle.refusals.specs.declared.Verdict.{Verdict}
+use Rattle.refusals.specs.declared.Verdict.the-variants.{Accepted, Refused}
+use Rattle.weak_orders.specs.declared.WindowAnswer.{WindowAnswer}
 use Rattle.weak_orders.specs.Window.{isLength, isRank, isHeight, heights, ranks, padded}
 
 -- the first n symbols of the array are a weak order of n in rank form; in height form
@@ -15,14 +19,25 @@ unfoldable pub isHeightWindow : ℕ → List ℕ → Bool
 unfolding isLength isHeight
 isHeightWindow n w = isLength n && isHeight (take n w)
 
--- done, with the window; or not, with sixteen zeros
-unfoldable pub converted : Bool → List ℕ → Converted
-converted done w = record { done = done; window = cond done w (replicate 16 0) }
+-- a window of n in a form: tests 6 and 8, and 8 covers one that is not n long
+unfoldable pub judgedIn : (List ℕ → Bool) → ℕ → List ℕ → Verdict
+unfolding isLength
+judgedIn form n w =
+    cond (not (isLength n)) (Refused WindowLength) (
+    cond (not (eqb (length w) n && form w)) (Refused NotWeakOrder)
+    Accepted)
 
-unfoldable pub rankToHeight : ℕ → List ℕ → Converted
-unfolding isRankWindow heights padded converted
-rankToHeight n w = converted (isRankWindow n w) (padded (heights (take n w)))
+-- accepted, with the window w, zeros behind; or refused, with sixteen zeros
+unfoldable pub answered : Verdict → List ℕ → WindowAnswer
+unfolding padded
+answered Accepted w = record { verdict = Accepted; window = padded w }
+answered (Refused cause) w = record { verdict = Refused cause; window = replicate 16 0 }
 
-unfoldable pub heightToRank : ℕ → List ℕ → Converted
-unfolding isHeightWindow ranks padded converted
-heightToRank n w = converted (isHeightWindow n w) (padded (ranks (take n w)))
+-- the two conversions
+unfoldable pub rankToHeight : ℕ → List ℕ → WindowAnswer
+unfolding judgedIn isRank heights answered
+rankToHeight n w = answered (judgedIn isRank n w) (heights w)
+
+unfoldable pub heightToRank : ℕ → List ℕ → WindowAnswer
+unfolding judgedIn isHeight ranks answered
+heightToRank n w = answered (judgedIn isHeight n w) (ranks w)

@@ -3,7 +3,7 @@ use mathlib.Core.Bool.{Bool, true, cond, _&&_}
 use mathlib.Core.List.{List, [], _∷_, _++_, map}
 use Prim.Native.Nat.{ℕ, zero, suc, max, _-_}
 use lib.Dec.{ltb, leb, eqb}
-use lib.ListN.{length, drop, replicate}
+use lib.ListN.{length, take, drop, replicate}
 
 -- every element of the list passes the test
 unfoldable pub all : {A : Type 0} → (A → Bool) → List A → Bool
@@ -81,6 +81,11 @@ isLength n = leb 1 n && leb n 16
 -- a window in an array of 16: its symbols, and zeros behind
 unfoldable pub padded : List ℕ → List ℕ
 padded w = w ++ replicate (16 - length w) 0
+
+-- a slice as a window of n: its bytes, and zeros behind; where it is not n long 255s, which are in neither form
+unfoldable pub loaded : ℕ → List ℕ → List ℕ
+unfolding padded
+loaded n s = cond (eqb (length s) n) (padded (take 16 s)) (replicate 16 255)
 
 -- the oldest symbol is dropped and s appended
 unfoldable pub shifted : List ℕ → ℕ → List ℕ

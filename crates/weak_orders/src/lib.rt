@@ -1,16 +1,20 @@
 // Weak orders of n things, ties included: windows of n symbols, their rank form and their height form.
-// Rests on nothing. Knows no rule and no session.
+// Rests on refusals for their causes. Knows no rule and no session.
 // A window is an array of 16 by value with n beside; the symbols past n are not looked at, and are 0 in every window made here.
 ghost use mathlib.Core.Bool.{true, cond};
+ghost use mathlib.Core.List.{[]};
 ghost use mathlib.Core.Path.{_≡_};
 ghost use Prim.Native.Nat.{min, suc, _≤_, _<_, _%_, _^_};
 ghost use lib.Count.{ones};
 ghost use lib.Dec.{ltb};
 ghost use lib.ListN.{take, drop};
 ghost use Rattle.weak_orders.specs.Says.{Says};
-ghost use Rattle.weak_orders.specs.Window.{below, height, heights, ranks, isLength, padded, shifted};
+ghost use Rattle.weak_orders.specs.Window.{below, height, heights, ranks, isLength, padded, loaded, shifted};
 ghost use Rattle.weak_orders.specs.Tables.{tally, upto, Ranked, bitOf, bitsOf};
-ghost use Rattle.weak_orders.specs.Converted.{isRankWindow, isHeightWindow, rankToHeight, heightToRank};
+ghost use Rattle.weak_orders.specs.Converted.{isRankWindow, isHeightWindow, answered, rankToHeight, heightToRank};
+ghost use Rattle.refusals.specs.declared.Verdict.{Verdict};
+use refusals::Cause;
+use refusals::Verdict;
 
 // A symbol's place in a table of counts: its own up to 16, and 17 for all larger ones.
 fn slot(v: u8) -> usize
@@ -91,11 +95,15 @@ pub fn is_height(w: [u8; 16], n: usize) -> bool
     (bits & (bits + 1)) == 0
 }
 
-// The first sixteen bytes of a slice as a window, with zeros behind.
-pub fn load(s: &[u8]) -> [u8; 16]
-    ensures { λ r. ⌜ r ≡ padded (take 16 (now (s .entry))) ⌝ }
+// A slice of n bytes as a window, with zeros behind. One that is not n long gives sixteen 255s, which are in neither form: no symbol there
+// is above 16.
+pub fn load(s: &[u8], n: usize) -> [u8; 16]
+    ensures { λ r. ⌜ r ≡ loaded n (now (s .entry)) ⌝ }
 {
-    let end = capped(s.len());
+    if s.len() != n {
+        return [255u8; 16];
+    }
+    let end = capped(n);
     let mut v = [0u8; 16];
     let mut i = 0;
     while i < end {
@@ -205,42 +213,53 @@ fn ranks_of(w: [u8; 16], n: usize) -> [u8; 16]
     v
 }
 
-// What a conversion gives: a window, or none where there was none in the form converted from.
-pub struct Converted {
-    pub done: bool,
+// A window for an answer. Refused, it is sixteen zeros.
+pub struct WindowAnswer {
+    pub verdict: Verdict,
     pub window: [u8; 16],
 }
 
-// From rank form to height form.
-pub fn rank_to_height(w: [u8; 16], n: usize) -> Converted
-    ensures { λ r. ⌜ r ≡ rankToHeight n w ⌝ }
-{
-    if !is_rank(w, n) {
-        return Converted {
-            done: false,
+impl WindowAnswer {
+    pub fn refused(cause: Cause) -> WindowAnswer
+        ensures { λ r. ⌜ r ≡ answered (Verdict.Refused cause) [] ⌝ }
+    {
+        WindowAnswer {
+            verdict: Verdict::Refused(cause),
             window: [0u8; 16],
-        };
+        }
+    }
+}
+
+// From rank form to height form.
+pub fn rank_to_height(w: [u8; 16], n: usize) -> WindowAnswer
+    ensures { λ r. ⌜ r ≡ rankToHeight n (take n w) ⌝ }
+{
+    if !is_length(n) {
+        return WindowAnswer::refused(Cause::WindowLength);
+    }
+    if !is_rank(w, n) {
+        return WindowAnswer::refused(Cause::NotWeakOrder);
     }
     let v = heights_of(w, n);
-    Converted {
-        done: true,
+    WindowAnswer {
+        verdict: Verdict::Accepted,
         window: v,
     }
 }
 
 // From height form to rank form.
-pub fn height_to_rank(w: [u8; 16], n: usize) -> Converted
-    ensures { λ r. ⌜ r ≡ heightToRank n w ⌝ }
+pub fn height_to_rank(w: [u8; 16], n: usize) -> WindowAnswer
+    ensures { λ r. ⌜ r ≡ heightToRank n (take n w) ⌝ }
 {
+    if !is_length(n) {
+        return WindowAnswer::refused(Cause::WindowLength);
+    }
     if !is_height(w, n) {
-        return Converted {
-            done: false,
-            window: [0u8; 16],
-        };
+        return WindowAnswer::refused(Cause::NotWeakOrder);
     }
     let v = ranks_of(w, n);
-    Converted {
-        done: true,
+    WindowAnswer {
+        verdict: Verdict::Accepted,
         window: v,
     }
 }

@@ -1,100 +1,81 @@
 -- What each direct call returns and leaves in the buffer, for every argument (document 01, "Turned down").
-use mathlib.Core.Bool.{Bool, true, false, cond, not, _&&_}
+use mathlib.Core.Bool.{Bool, false, cond, not, _&&_}
 use mathlib.Core.List.{List, _++_}
-use Prim.Native.Nat.{ℕ, _+_}
-use lib.Dec.{ltb, eqb}
+use Prim.Native.Nat.{ℕ}
+use lib.Dec.{ltb, leb}
 use lib.ListN.{length, take, drop, replicate}
-use Rattle.refusals.specs.Numbers.{causeNumber}
+use Rattle.refusals.specs.Numbers.{causeNumber, returned}
 use Rattle.refusals.specs.declared.Cause.{Cause}
-use Rattle.refusals.specs.declared.Cause.the-variants.{ShortBuffer, WindowLength, RuleNumber, NotWeakOrder, NoSuchPlace}
-use Rattle.successors.specs.declared.Next.{Next}
-use Rattle.successors.specs.declared.Next.the-variants.{Symbol, NotWeakOrder as NoWeakOrder}
-use Rattle.successors.specs.Rules.{ruleOf, inForm, isRule}
+use Rattle.refusals.specs.declared.Cause.the-variants.{ShortBuffer}
+use Rattle.refusals.specs.declared.Verdict.{Verdict}
+use Rattle.refusals.specs.declared.Verdict.the-variants.{Accepted, Refused}
+use Rattle.weak_orders.specs.declared.WindowAnswer.{WindowAnswer}
+use Rattle.weak_orders.specs.Converted.{rankToHeight, heightToRank}
 use Rattle.ranking.specs.declared.Placed.{Placed}
-use Rattle.ranking.specs.declared.Placed.the-variants.{At, NotHeightForm}
-use Rattle.ranking.specs.Counts.{a}
-use Rattle.ranking.specs.Dictionary.{place, windowAt}
+use Rattle.ranking.specs.declared.Placed.the-variants.{At, Refused as Unplaced}
+use Rattle.ranking.specs.Answers.{placed, located}
+use Rattle.successors.specs.NextSymbol.{nextSymbol, nextNumber}
 use Rattle.frames.specs.Fields.{bytes64}
 use Rattle.wko.specs.declared.PlaceBytes.{PlaceBytes}
-use Rattle.weak_orders.specs.Window.{isLength, isRank, isHeight, heights, ranks}
 
 -- the number returned, and the whole buffer
 abbrev pub Outcome : Type 0
 Outcome = ℕ × List ℕ
 
--- refused: 256 and the table's number, and no byte written
-abbrev pub refusal : Cause → ℕ
-refusal c = 256 + causeNumber c
+-- "Direct calls test 6, 7, 1, then 8 or 13": 6 and 7 are told before a short buffer
+unfoldable pub toldFirst : Cause → Bool
+toldFirst cause = leb 6 (causeNumber cause) && leb (causeNumber cause) 7
 
-unfoldable pub refuse : Cause → List ℕ → Outcome
-refuse c out = (refusal c, out)
+unfoldable pub beforeRoom : Verdict → Bool
+unfolding toldFirst
+beforeRoom Accepted = false
+beforeRoom (Refused cause) = toldFirst cause
 
--- done: 0, and the bytes written over the front of the buffer
-unfoldable pub accept : List ℕ → List ℕ → Outcome
-accept bytes out = (0, bytes ++ drop (length bytes) out)
+-- the verdict where `need` bytes are to be written into a buffer of `room`
+unfoldable pub withRoom : ℕ → ℕ → Verdict → Verdict
+unfolding beforeRoom
+withRoom need room v = cond (ltb room need && not (beforeRoom v)) (Refused ShortBuffer) v
 
--- a call that takes a window in a form and writes `need` bytes or more: tests 6, 1 and 8
-unfoldable pub windowCall : (List ℕ → Bool) → (List ℕ → List ℕ) → ℕ → ℕ → List ℕ → List ℕ → Outcome
-unfolding isLength refuse accept
-windowCall inForm bytes need n w out =
-    cond (not (isLength n)) (refuse WindowLength out) (
-    cond (ltb (length out) need) (refuse ShortBuffer out) (
-    cond (not (eqb (length w) n && inForm w)) (refuse NotWeakOrder out) (
-    accept (bytes w) out)))
+-- accepted, the bytes are written over the front of the buffer; refused, no byte is written
+unfoldable pub written : Verdict → List ℕ → List ℕ → List ℕ
+written Accepted bytes out = bytes ++ drop (length bytes) out
+written (Refused cause) bytes out = out
 
--- the two conversions
+unfoldable pub delivered : Verdict → List ℕ → List ℕ → Outcome
+unfolding written
+delivered v bytes out = (returned v, written v bytes out)
+
+-- a window for an answer: n bytes
+unfoldable pub windowGiven : ℕ → WindowAnswer → List ℕ → Outcome
+unfolding withRoom delivered
+windowGiven n x out = delivered (withRoom n (length out) (x .verdict)) (take n (x .window)) out
+
+-- a place for an answer: eight bytes, little-endian
+abbrev pub placeBytes : Placed → PlaceBytes
+placeBytes (At k) = record { verdict = Accepted; bytes = bytes64 k }
+placeBytes (Unplaced cause) = record { verdict = Refused cause; bytes = replicate 8 0 }
+
+unfoldable pub placeGiven : Placed → List ℕ → Outcome
+unfolding withRoom delivered
+placeGiven p out = delivered (withRoom 8 (length out) (placeBytes p .verdict)) (placeBytes p .bytes) out
+
+-- the five calls
+unfoldable pub nextSymbolCall : ℕ → ℕ → List ℕ → ℕ
+unfolding nextSymbol
+nextSymbolCall n rule w = nextNumber (nextSymbol rule n w)
+
 unfoldable pub rankToHeightCall : ℕ → List ℕ → List ℕ → Outcome
-unfolding windowCall isRank heights
-rankToHeightCall n = windowCall isRank heights n n
+unfolding windowGiven rankToHeight
+rankToHeightCall n w = windowGiven n (rankToHeight n w)
 
 unfoldable pub heightToRankCall : ℕ → List ℕ → List ℕ → Outcome
-unfolding windowCall isHeight ranks
-heightToRankCall n = windowCall isHeight ranks n n
+unfolding windowGiven heightToRank
+heightToRankCall n w = windowGiven n (heightToRank n w)
 
--- the place of a height window, in eight bytes
 unfoldable pub placeCall : ℕ → List ℕ → List ℕ → Outcome
-unfolding windowCall isHeight place
-placeCall n = windowCall isHeight (λ w. bytes64 (place w)) 8 n
+unfolding placeGiven placed
+placeCall n w = placeGiven (placed n w)
 
--- the height window at a place: tests 6, 1 and 13
 unfoldable pub windowAtCall : ℕ → ℕ → List ℕ → Outcome
-unfolding isLength a windowAt refuse accept
-windowAtCall n k out =
-    cond (not (isLength n)) (refuse WindowLength out) (
-    cond (ltb (length out) n) (refuse ShortBuffer out) (
-    cond (not (ltb k (a n))) (refuse NoSuchPlace out) (
-    accept (windowAt n k) out)))
-
--- the next symbol under a rule: tests 6, 7 and 8; a symbol, or a refusal
-unfoldable pub nextSymbolCall : ℕ → ℕ → List ℕ → ℕ
-unfolding isLength isRule inForm ruleOf
-nextSymbolCall n rule w =
-    cond (not (isLength n)) (refusal WindowLength) (
-    cond (not (isRule rule)) (refusal RuleNumber) (
-    cond (not (eqb (length w) n && inForm rule w)) (refusal NotWeakOrder) (
-    ruleOf rule w)))
-
--- what is answered for a symbol, or for none
-abbrev pub answerOf : Next → ℕ
-answerOf (Symbol s) = s
-answerOf NoWeakOrder = refusal NotWeakOrder
-
--- the parts of the work: the tests on lengths, 0 where they pass, and what each answer leaves in the buffer
-unfoldable pub lengthTests : ℕ → ℕ → ℕ → ℕ → ℕ
-unfolding isLength
-lengthTests n need window out =
-    cond (not (isLength n)) (refusal WindowLength) (
-    cond (ltb out need) (refusal ShortBuffer) (
-    cond (not (eqb window n)) (refusal NotWeakOrder) 0))
-
-unfoldable pub given : Bool → Cause → ℕ → List ℕ → List ℕ → Outcome
-unfolding refuse accept
-given done cause n w out = cond done (accept (take n w) out) (refuse cause out)
-
-abbrev pub placeBytes : Placed → PlaceBytes
-placeBytes (At k) = record { done = true; bytes = bytes64 k }
-placeBytes NotHeightForm = record { done = false; bytes = replicate 8 0 }
-
-unfoldable pub givenPlace : Placed → List ℕ → Outcome
-unfolding refuse accept
-givenPlace p out = cond (placeBytes p .done) (accept (placeBytes p .bytes) out) (refuse NotWeakOrder out)
+unfolding windowGiven located
+windowAtCall n k = windowGiven n (located n k)

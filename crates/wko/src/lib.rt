@@ -1,21 +1,27 @@
 // The C interface: direct calls on numbers and byte slices, declared in include/wko.h.
-// A thin layer over weak_orders, ranking and successors: it tests lengths, calls, and copies the answer out. The frame call for
+// A thin layer over weak_orders, ranking and successors: it loads the window, calls, and copies the answer out. The frame call for
 // firmware is in the module session.
 pub mod session;
 
-ghost use mathlib.Core.Bool.{true};
+ghost use mathlib.Core.Bool.{cond};
 ghost use mathlib.Core.List.{_++_};
 ghost use mathlib.Core.Path.{_≡_};
 ghost use Prim.Native.Nat.{_≤_};
+ghost use lib.Dec.{ltb};
 ghost use lib.ListN.{length, take, drop};
+ghost use Rattle.refusals.specs.Numbers.{refusal};
 ghost use Rattle.refusals.specs.declared.Cause.{Cause};
+ghost use Rattle.refusals.specs.declared.Verdict.{Verdict};
 ghost use Rattle.ranking.specs.declared.Placed.{Placed};
-ghost use Rattle.successors.specs.Rules.{isRule};
-ghost use Rattle.wko.specs.Calls.{refusal, lengthTests, given, placeBytes, givenPlace, answerOf};
+ghost use Rattle.successors.specs.NextSymbol.{nextNumber};
+ghost use Rattle.weak_orders.specs.declared.WindowAnswer.{WindowAnswer};
+ghost use Rattle.wko.specs.Calls.{toldFirst, withRoom, windowGiven, placeBytes, placeGiven};
 ghost use Rattle.wko.specs.Calls.{nextSymbolCall, rankToHeightCall, heightToRankCall, placeCall, windowAtCall};
 use ranking::Placed;
 use refusals::Cause;
+use refusals::Verdict;
 use successors::Next;
+use weak_orders::WindowAnswer;
 
 // What C gets for a refusal: 256 and the table's number.
 fn refused(cause: Cause) -> u32
@@ -24,54 +30,56 @@ fn refused(cause: Cause) -> u32
     256 + refusals::number(cause) as u32
 }
 
-// Test 7.
-fn is_rule(rule: u64) -> bool
-    ensures { λ r. ⌜ r ≡ isRule rule ⌝ }
+// A rule's number as a byte. One that does not fit is no rule, and neither is 0.
+fn rule_number(rule: u64) -> u8
+    ensures { λ r. ⌜ r ≡ cond (ltb rule 256) rule 0 ⌝ }
 {
-    (1 <= rule) & (rule <= 3)
+    if rule < 256 { rule as u8 } else { 0 }
 }
 
 // A symbol is its own answer.
 fn answer(next: Next) -> u32
-    ensures { λ r. ⌜ r ≡ answerOf next ⌝ }
+    ensures { λ r. ⌜ r ≡ nextNumber next ⌝ }
 {
     match next {
         Next::Symbol(s) => s as u32,
-        Next::NotWeakOrder => refused(Cause::NotWeakOrder),
+        Next::Refused(cause) => refused(cause),
     }
 }
 
-// The symbol that follows the window under a rule. Tested in the order 6, 7, 8.
+// The symbol that follows the window under a rule.
 #[no_mangle]
 pub extern "C" fn wko_next_symbol(n: u64, rule: u64, window: &[u8]) -> u32
     ensures { λ r. ⌜ r ≡ nextSymbolCall n rule (now (window .entry)) ⌝ }
 {
-    if !weak_orders::is_length(n as usize) {
-        return refused(Cause::WindowLength);
-    }
-    if !is_rule(rule) {
-        return refused(Cause::RuleNumber);
-    }
-    if window.len() as u64 != n {
-        return refused(Cause::NotWeakOrder);
-    }
-    answer(successors::next_symbol(rule as u8, weak_orders::load(window), n as usize))
+    let w = weak_orders::load(window, n as usize);
+    answer(successors::next_symbol(rule_number(rule), w, n as usize))
 }
 
-// Tests 6, 1 for a buffer of `need` bytes, and the length in 8, in this order; 0 where all pass.
-fn length_tests(n: u64, need: u64, window: usize, out: usize) -> u32
-    ensures { λ r. ⌜ r ≡ lengthTests n need window out ⌝ }
+// Direct calls test 6, 7, 1, then 8 or 13: a cause that is told before a short buffer.
+fn told_first(cause: Cause) -> bool
+    ensures { λ r. ⌜ r ≡ toldFirst cause ⌝ }
 {
-    if !weak_orders::is_length(n as usize) {
-        return refused(Cause::WindowLength);
+    let k = refusals::number(cause);
+    (6 <= k) & (k <= 7)
+}
+
+// The verdict where `need` bytes are to be written into a buffer of `room`.
+fn with_room(need: usize, room: usize, verdict: Verdict) -> Verdict
+    ensures { λ r. ⌜ r ≡ withRoom need room verdict ⌝ }
+{
+    if need <= room {
+        return verdict;
     }
-    if (out as u64) < need {
-        return refused(Cause::ShortBuffer);
+    match verdict {
+        Verdict::Accepted => Verdict::Refused(Cause::ShortBuffer),
+        Verdict::Refused(cause) => {
+            if told_first(cause) {
+                return verdict;
+            }
+            Verdict::Refused(Cause::ShortBuffer)
+        }
     }
-    if window as u64 != n {
-        return refused(Cause::NotWeakOrder);
-    }
-    0
 }
 
 // The first n symbols of a window, to the front of a buffer.
@@ -82,16 +90,21 @@ fn store(w: [u8; 16], n: usize, out: &mut [u8])
     bytes::copy(&w[..n], out);
 }
 
-// The last test, and the window written out where it passed.
-fn give(done: bool, cause: Cause, w: [u8; 16], n: usize, out: &mut [u8]) -> u32
-    requires { ⌜ (n ≤ 16) × (n ≤ length (now out)) ⌝ }
-    ensures { λ r. ⌜ (r, now (out .exit)) ≡ given done cause n w (now (out .entry)) ⌝ }
+// A window for an answer: told, and written out where it is accepted and there is room.
+fn give(x: WindowAnswer, n: usize, out: &mut [u8]) -> u32
+    requires { ⌜ (x .verdict ≡ Verdict.Accepted → n ≤ 16) ⌝ }
+    ensures { λ r. ⌜ (r, now (out .exit)) ≡ windowGiven n x (now (out .entry)) ⌝ }
 {
-    if !done {
-        return refused(cause);
+    let w = x.window;
+    let told = x.verdict;
+    let verdict = with_room(n, out.len(), told);
+    match verdict {
+        Verdict::Accepted => {
+            store(w, n, out);
+            0
+        }
+        Verdict::Refused(cause) => refused(cause),
     }
-    store(w, n, out);
-    0
 }
 
 // Ranks to heights.
@@ -99,13 +112,8 @@ fn give(done: bool, cause: Cause, w: [u8; 16], n: usize, out: &mut [u8]) -> u32
 pub extern "C" fn wko_rank_to_height(n: u64, window: &[u8], out: &mut [u8]) -> u32
     ensures { λ r. ⌜ (r, now (out .exit)) ≡ rankToHeightCall n (now (window .entry)) (now (out .entry)) ⌝ }
 {
-    let r = length_tests(n, n, window.len(), out.len());
-    if r != 0 {
-        return r;
-    }
-    let c = weak_orders::rank_to_height(weak_orders::load(window), n as usize);
-    let w = c.window;
-    give(c.done, Cause::NotWeakOrder, w, n as usize, out)
+    let w = weak_orders::load(window, n as usize);
+    give(weak_orders::rank_to_height(w, n as usize), n as usize, out)
 }
 
 // Heights to ranks.
@@ -113,18 +121,13 @@ pub extern "C" fn wko_rank_to_height(n: u64, window: &[u8], out: &mut [u8]) -> u
 pub extern "C" fn wko_height_to_rank(n: u64, window: &[u8], out: &mut [u8]) -> u32
     ensures { λ r. ⌜ (r, now (out .exit)) ≡ heightToRankCall n (now (window .entry)) (now (out .entry)) ⌝ }
 {
-    let r = length_tests(n, n, window.len(), out.len());
-    if r != 0 {
-        return r;
-    }
-    let c = weak_orders::height_to_rank(weak_orders::load(window), n as usize);
-    let w = c.window;
-    give(c.done, Cause::NotWeakOrder, w, n as usize, out)
+    let w = weak_orders::load(window, n as usize);
+    give(weak_orders::height_to_rank(w, n as usize), n as usize, out)
 }
 
-// A place in eight bytes, little-endian; or none.
+// A place in eight bytes, little-endian; refused, eight zeros.
 struct PlaceBytes {
-    done: bool,
+    verdict: Verdict,
     bytes: [u8; 8],
 }
 
@@ -133,27 +136,31 @@ fn place_bytes(place: Placed) -> PlaceBytes
 {
     match place {
         Placed::At(k) => PlaceBytes {
-            done: true,
+            verdict: Verdict::Accepted,
             bytes: frames::field::bytes_of(k),
         },
-        Placed::NotHeightForm => PlaceBytes {
-            done: false,
+        Placed::Refused(cause) => PlaceBytes {
+            verdict: Verdict::Refused(cause),
             bytes: [0u8; 8],
         },
     }
 }
 
+// A place for an answer, as `give` does it for a window.
 fn give_place(place: Placed, out: &mut [u8]) -> u32
-    requires { ⌜ 8 ≤ length (now out) ⌝ }
-    ensures { λ r. ⌜ (r, now (out .exit)) ≡ givenPlace place (now (out .entry)) ⌝ }
+    ensures { λ r. ⌜ (r, now (out .exit)) ≡ placeGiven place (now (out .entry)) ⌝ }
 {
     let p = place_bytes(place);
-    if !p.done {
-        return refused(Cause::NotWeakOrder);
-    }
     let b = p.bytes;
-    bytes::copy(&b, out);
-    0
+    let told = p.verdict;
+    let verdict = with_room(8, out.len(), told);
+    match verdict {
+        Verdict::Accepted => {
+            bytes::copy(&b, out);
+            0
+        }
+        Verdict::Refused(cause) => refused(cause),
+    }
 }
 
 // The place of a height window in dictionary order.
@@ -161,23 +168,14 @@ fn give_place(place: Placed, out: &mut [u8]) -> u32
 pub extern "C" fn wko_place(n: u64, window: &[u8], out: &mut [u8]) -> u32
     ensures { λ r. ⌜ (r, now (out .exit)) ≡ placeCall n (now (window .entry)) (now (out .entry)) ⌝ }
 {
-    let r = length_tests(n, 8, window.len(), out.len());
-    if r != 0 {
-        return r;
-    }
-    give_place(ranking::place(weak_orders::load(window), n as usize), out)
+    let w = weak_orders::load(window, n as usize);
+    give_place(ranking::place(w, n as usize), out)
 }
 
-// The height window of n at a place. There is no window to test: its length is n.
+// The height window of n at a place.
 #[no_mangle]
 pub extern "C" fn wko_window_at(n: u64, place: u64, out: &mut [u8]) -> u32
     ensures { λ r. ⌜ (r, now (out .exit)) ≡ windowAtCall n place (now (out .entry)) ⌝ }
 {
-    let r = length_tests(n, n, n as usize, out.len());
-    if r != 0 {
-        return r;
-    }
-    let l = ranking::window_at(n as usize, place);
-    let w = l.window;
-    give(l.found, Cause::NoSuchPlace, w, n as usize, out)
+    give(ranking::window_at(n as usize, place), n as usize, out)
 }

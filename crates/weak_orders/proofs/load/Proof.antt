@@ -1,4 +1,4 @@
--- `load`: the array holds what was copied so far. Assumes nothing.
+-- `load`: the array holds what was copied so far of a slice of n. Assumes nothing.
 use borrow.Author.Needs.{needs}
 use denote.Ref.{now}
 use mathlib.Core.Path.{_≡_, refl, sym}
@@ -6,16 +6,21 @@ use Prim.Native.Nat.{min, _≤_, _-_}
 use native.Mathlib.Omega.{arith}
 use lib.ListN.{length, take, getD, length-take, length-set}
 use lib.Seq.{getD-take}
-use Rattle.weak_orders.specs.Window.{padded}
+use borrow.Author.Tests.{eq-eqb, ne-eqb}
+use Rattle.weak_orders.specs.Window.{padded, loaded}
 use Rattle.weak_orders.proofs.Padded.{padded-next, padded-all}
 use Rattle.weak_orders.proofs.load.Statement.{statement}
 use Rattle.weak_orders.proofs.load.Tie as tie
 
 abbrev Inv-loop : tie.InvT-loop
-Inv-loop s end v₀ i₀ v i = (i ≤ end) × (v ≡ padded (take i (take 16 s))) × (length v ≡ 16)
+Inv-loop s n end v₀ i₀ v i = (i ≤ end) × (v ≡ padded (take i (take 16 s))) × (length v ≡ 16)
 
 abbrev μ-loop : tie.MeasureT-loop
-μ-loop s end v₀ i₀ v i = end - i
+μ-loop s n end v₀ i₀ v i = end - i
+
+returns : tie.Need-returns Inv-loop μ-loop
+unfolding loaded
+returns c = rw (ne-eqb (length (c .before .before .args .s .now)) (c .before .before .args .n) (c .if1 .taken))
 
 capped-requires : tie.Need-capped-requires Inv-loop μ-loop
 capped-requires c κs = search needs
@@ -38,7 +43,7 @@ loop-less c = search needs
 
 loop-again : tie.Need-loop-again Inv-loop μ-loop
 loop-again c =
-    let s = now (c .before .before .before .before .before .args .s) in
+    let s = now (c .before .before .before .before .before .before .args .s) in
     let p = c .before .before .loop in
     let len : length (take 16 s) ≡ min 16 (length s) = length-take 16 s in (
       omega arith,
@@ -47,11 +52,13 @@ loop-again c =
       simp length-set (p .inv .2),
     )
 
-returns : tie.Need-returns Inv-loop μ-loop
-returns c =
-    let s = now (c .before .before .before .before .args .s) in
+returns-2 : tie.Need-returns-2 Inv-loop μ-loop
+unfolding loaded
+returns-2 c =
+    let a = c .before .before .before .before .before .args in
+    let s = now (a .s) in
     let p = c .before .loop in
-    padded-all (take 16 s) (p .v) (p .i) (omega (arith, length-take 16 s)) (p .inv .1)
+    rw (eq-eqb (length s) (a .n) (omega arith)) (padded-all (take 16 s) (p .v) (p .i) (omega (arith, length-take 16 s)) (p .inv .1))
 
 pub load-spec : {M : Type 1} → statement M
 load-spec =
@@ -59,6 +66,7 @@ load-spec =
     (tie.spec
     Inv-loop
     μ-loop
+    returns
     capped-requires
     loop-holds
     shared-slice-read-v
@@ -66,4 +74,4 @@ load-spec =
     add-i
     loop-less
     loop-again
-    returns)
+    returns-2)

@@ -1,10 +1,13 @@
--- `give_place`: eight bytes, or refused. Assumes nothing.
-use mathlib.Core.Path.{_≡_}
+-- `give_place`: refused, or eight bytes copied. Assumes nothing.
+use denote.Ref.{now}
+use mathlib.Core.Path.{_≡_, sym, _∙_}
+use Prim.Native.Nat.{_≤_}
 use native.Mathlib.Omega.{arith}
 use lib.ListN.{length}
 use lib.Seq.{take-length}
-use borrow.Author.Tests.{not-true, not-false}
-use Rattle.wko.specs.Calls.{givenPlace, refuse, accept}
+use Rattle.refusals.specs.declared.Verdict.the-variants.{Accepted}
+use Rattle.wko.specs.Calls.{withRoom, written, delivered, placeGiven}
+use Rattle.wko.proofs.Cases.{room-accepted}
 use borrow.Author.Needs.{needs}
 use Rattle.wko.proofs.give_place.Statement.{statement}
 use Rattle.wko.proofs.give_place.Tie as tie
@@ -12,41 +15,65 @@ use Rattle.wko.proofs.give_place.Tie as tie
 place-bytes-requires : tie.Need-place-bytes-requires
 place-bytes-requires c κs = search needs
 
-refused-requires : tie.Need-refused-requires
-refused-requires c κs = search needs
+with-room-requires : tie.Need-with-room-requires
+with-room-requires c κs = search needs
 
-returns : tie.Need-returns
-unfolding givenPlace refuse
-returns c =
-    let p = c .before .before .before .place-bytes in
-    rw (← p .ensures, not-true (p .result .done) (c .before .if1 .taken), c .refused .ensures)
+enum-told : tie.Need-enum-told
+enum-told c = search needs
 
 slice-aggregate-copy : tie.Need-slice-aggregate-copy
 slice-aggregate-copy c = search needs
 
+-- accepted: there is room
+accepted : (c : tie.After-enum-told) →
+    let r = c .before .before in
+    let room = length (now (r .before .before .before .before .args .out)) in
+    (8 ≤ room) × (withRoom 8 room (r .before .before .place-bytes .result .verdict) ≡ Accepted)
+accepted c =
+    let r = c .before .before in
+    let e = sym (r .with-room .ensures) ∙ c .enum-told .given .1 in
+    (room-accepted _ _ _ e .1, e)
+
 copy-requires : tie.Need-copy-requires
 copy-requires c κs =
-    let l : length (c .before .before .before .before .before .place-bytes .result .bytes) ≡ 8 = search needs in
-    omega arith
+    let p = c .before .before .before .before .before .before .place-bytes in
+    let l : length (p .result .bytes) ≡ 8 = search needs in
+    omega (arith, accepted (c .before .before) .0)
+
+enum-known-verdict : tie.Need-enum-known-verdict
+enum-known-verdict c = search needs
+
+refused-requires : tie.Need-refused-requires
+refused-requires c κs = search needs
 
 same-length : tie.Need-same-length
 same-length c = search needs
 
+returns : tie.Need-returns
+unfolding placeGiven delivered written
+returns c =
+    let t = c .before .before .before .before .before in
+    let p = t .before .before .before .before .place-bytes in
+    rw (← p .ensures, accepted t .1, c .before .before .copy .ensures .1, take-length (p .result .bytes))
+
 returns-2 : tie.Need-returns-2
-unfolding givenPlace accept
+unfolding placeGiven delivered written
 returns-2 c =
-    let p = c .before .before .before .before .before .before .before .before .place-bytes in
-    let done = not-false (p .result .done) (c .before .before .before .before .before .before .if1 .left) in
-    rw (← p .ensures, done, c .before .before .copy .ensures .1, take-length (p .result .bytes))
+    let v = c .before .before in
+    let r = v .before .before in
+    rw (← r .before .before .place-bytes .ensures, sym (r .with-room .ensures) ∙ v .verdict .given .1, c .refused .ensures)
 
 pub give-place-spec : {M : Type 1} → statement M
 give-place-spec =
     tie.close
     (tie.spec
     place-bytes-requires
-    refused-requires
-    returns
+    with-room-requires
+    enum-told
     slice-aggregate-copy
     copy-requires
+    enum-known-verdict
+    refused-requires
     same-length
+    returns
     returns-2)
