@@ -3,6 +3,7 @@ CC = gcc
 CFLAGS = -std=c11 -O2 -Wall -Wextra -D_DEFAULT_SOURCE
 LIB = target/staticlib/libwko.a
 TESTS = target/host/test_calls target/host/test_session
+MODELS = target/host/replay_records target/host/sheet_answers
 
 .PHONY: test run rings lib host host-test bench clean
 
@@ -42,9 +43,10 @@ target/host/example: host/example.c include/wko.h $(LIB)
 	@mkdir -p target/host
 	@$(CC) $(CFLAGS) -Iinclude -o $@ host/example.c $(LIB)
 
-host-test: $(TESTS) target/host/example target/bin/round
+host-test: $(TESTS) $(MODELS) target/host/example target/bin/round
 	@target/host/example | cmp - host/example.out
 	@host/readme.sh
+	@host/stored.sh
 	@for t in $(TESTS); do $$t || exit 1; done
 
 target/host/%: host/%.c $(wildcard host/*.h) host/reference.c host/session_model.c include/wko.h $(LIB)
