@@ -43,10 +43,11 @@ target/host/example: host/example.c include/wko.h $(LIB)
 	@mkdir -p target/host
 	@$(CC) $(CFLAGS) -Iinclude -o $@ host/example.c $(LIB)
 
-host-test: $(TESTS) $(MODELS) target/host/example target/bin/round
+host-test: $(TESTS) $(MODELS) target/host/example target/host/print_round target/bin/round
 	@target/host/example | cmp - host/example.out
 	@host/readme.sh
 	@host/stored.sh
+	@host/rounds.sh
 	@for t in $(TESTS); do $$t || exit 1; done
 
 target/host/%: host/%.c $(wildcard host/*.h) host/reference.c host/session_model.c include/wko.h $(LIB)
@@ -60,7 +61,7 @@ bench: target/host/bench target/host/print_round target/bin/round
 
 target/host/print_round: bench/print_round.c bench/baseline.c bench/baseline.h
 	@mkdir -p target/host
-	@$(CC) -std=c11 -O3 -o $@ bench/print_round.c bench/baseline.c
+	@$(CC) -std=c11 -O3 -Wall -Wextra -o $@ bench/print_round.c bench/baseline.c
 
 target/staticlib/libwalk.a: $(LIB)
 	@rt staticlib walk >target/staticlib.log 2>&1 || { tail -n 20 target/staticlib.log; exit 1; }
