@@ -12,9 +12,12 @@ help:
 	@sed -n 's/^## //p' Makefile
 
 ## make run [SHEET=file]  prints the round of a sheet: document 01's sample, or the file's
+# A program has no exit status: where round says something on standard error, the run has failed.
 SHEET = crates/round/stdin
 run: target/bin/round
-	@target/bin/round <$(SHEET)
+	@{ said=$$(target/bin/round <$(SHEET) 2>&1 >&3); } 3>&1; status=$$?; \
+	[ -z "$$said" ] || printf '%s\n' "$$said" >&2; \
+	[ $$status -eq 0 ] && [ -z "$$said" ]
 
 target/bin/round: $(SOURCES)
 	@mkdir -p target
