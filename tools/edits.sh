@@ -8,7 +8,7 @@ copy=target/edits
 rm -rf $copy
 mkdir -p $copy
 cp -R crates crates.txt $copy
-for edits in $copy/crates/*/must-fail; do
+for edits in "$copy"/crates/*/must-fail; do
   [ "$edits" = "$copy/crates/$crate/must-fail" ] || rm -rf "$edits"
 done
 ln -s .. $copy/target
