@@ -6,7 +6,7 @@ SOURCES := crates.txt $(shell find crates -name '*.rt' -o -name '*.antt')
 TESTS = target/host/test_calls target/host/test_session
 MODELS = target/host/replay_records target/host/sheet_answers
 
-.PHONY: help run test lib host host-test install uninstall dev fmt edits rings bench clean
+.PHONY: help run test lib host host-test install uninstall dev fmt edits rings graph bench clean
 
 help:
 	@sed -n 's/^## //p' Makefile
@@ -97,6 +97,10 @@ rings: target/bin/round
 	@target/bin/round <docs/picture/sheet | awk -f docs/picture/steps.awk
 	@echo
 	@target/bin/round <docs/picture/sheet | awk -f docs/picture/rings.awk
+
+## make graph                   draws the README's picture of the crates from crates.txt
+graph:
+	@awk -f docs/picture/graph.awk crates.txt
 
 ## make bench                   speed against plain C in the same run; a report, not a test
 bench: target/host/bench target/host/print_round target/bin/round
