@@ -68,6 +68,7 @@ target/host/example: host/example.c include/wko.h $(LIB)
 host-test: $(TESTS) $(MODELS) target/host/example target/host/print_round target/bin/round
 	@target/host/example | cmp - host/example.out
 	@host/readme.sh
+	@host/trace.sh
 	@host/stored.sh
 	@host/rounds.sh
 	@host/install.sh
