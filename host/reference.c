@@ -249,6 +249,16 @@ void ref_window_at(int n, uint64_t place, uint8_t *out)
     }
 }
 
+int ref_setting_ok(int n, long top, long spacing)
+{
+    return top >= -10000 && top <= 2000 && spacing >= 1 && spacing <= 500 && top - (n - 1) * spacing >= -12000;
+}
+
+long ref_level(int rule, long top, long spacing, int symbol)
+{
+    return top - (rule == 1 ? symbol - 1 : symbol) * spacing;
+}
+
 void ref_random_heights(uint64_t (*next)(void), int n, uint8_t *out)
 {
     uint8_t w[16];

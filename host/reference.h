@@ -14,6 +14,10 @@ uint64_t ref_count(int n);
 uint64_t ref_place(const uint8_t *w, int n);
 void ref_window_at(int n, uint64_t place, uint8_t *out);
 
+/* Whether a level setting passes test 9, and the level of a symbol. */
+int ref_setting_ok(int n, long top, long spacing);
+long ref_level(int rule, long top, long spacing, int symbol);
+
 /* A random weak order of n in height form, with few or many ties; `next` gives 64 random bits. */
 void ref_random_heights(uint64_t (*next)(void), int n, uint8_t *out);
 #endif

@@ -28,7 +28,7 @@ static int round_refusal(uint64_t n, int rule, long top, long spacing, const uin
         return 7;
     if (!ref_in_form(rule, window, (int)n) || !all_zero(window, (int)n, 15))
         return 8;
-    if (top < -10000 || top > 2000 || spacing < 1 || spacing > 500 || top - ((long)n - 1) * spacing < -12000)
+    if (!ref_setting_ok((int)n, top, spacing))
         return 9;
     return 0;
 }
@@ -42,7 +42,7 @@ int model_has_begun(const struct wko_session *s)
 static void write_answer(const struct wko_session *s, int with_symbol, uint8_t *answer)
 {
     int different = 0, n = (int)s->n, symbol = s->window[n - 1];
-    long level = s->setting.top - (long)(s->rule == 1 ? symbol - 1 : symbol) * s->setting.spacing;
+    long level = ref_level(s->rule, s->setting.top, s->setting.spacing, symbol);
     for (int v = 0; v < 256; v++)
         different += memchr(s->window, v, (size_t)n) != NULL;
     memcpy(answer, "WKA1", 4);
