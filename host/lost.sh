@@ -50,6 +50,7 @@ says "replay of more than a million records" "replay: stopped after 1000000 reco
 if [ -c /dev/full ]; then
   $round <crates/round/stdin >/dev/full 2>$said
   says "round to a full device" "round: could not write the round: No space left on device"
+  ! make --no-print-directory run >/dev/full 2>/dev/null || { echo "make run to a full device: passed" && status=1; }
   $replay <crates/replay/stdin >/dev/full 2>$said
   says "replay to a full device" "replay: could not write an answer: No space left on device"
 fi

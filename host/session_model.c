@@ -35,7 +35,7 @@ static int round_refusal(uint64_t n, int rule, long top, long spacing, const uin
 
 int model_has_begun(const struct wko_session *s)
 {
-    return s->begun && round_refusal(s->n, s->rule, s->setting.top, s->setting.spacing, s->window) == 0
+    return s->begun == 1 && round_refusal(s->n, s->rule, s->setting.top, s->setting.spacing, s->window) == 0
            && s->done <= ref_count((int)s->n);
 }
 
@@ -65,7 +65,7 @@ static int begin(struct wko_session *s, const uint8_t *f, uint8_t *answer)
     if (!all_zero(f, 7, 15) || !all_zero(f, 20, 23))
         return 5;
     memset(&next, 0, sizeof next);
-    next.begun = true;
+    next.begun = 1;
     next.n = f[5];
     next.rule = f[6];
     next.setting.top = (int16_t)(uint16_t)little_endian(f + 16, 2);

@@ -99,7 +99,7 @@ static size_t random_frame(uint8_t *f, const struct wko_session *s, int small)
 static struct wko_session random_session(void)
 {
     struct wko_session s = wko_fresh();
-    s.begun = random_below(4) != 0;
+    s.begun = (uint8_t)(random_below(4) ? 1 : random64());
     s.n = random_below(8) ? 1 + random_below(16) : random64() >> random_below(64);
     s.rule = (uint8_t)(random_below(8) ? 1 + random_below(3) : random64());
     s.setting.top = tops[random_below(10)];
@@ -127,12 +127,32 @@ static void history(int small)
     }
 }
 
+/* A session as a device may have kept it, with every value of its first byte: 1 has begun, the others have not and stay as they are. */
+static void check_begun_bytes(void)
+{
+    uint8_t begin[40], query[40] = "WKO1Q", step[40];
+    begin_frame(begin, 1);
+    put(begin + 16, (uint16_t)-1000, 2);
+    put(begin + 18, 100, 2);
+    step_frame(step, 1);
+    for (int byte = 0; byte < 256; byte++) {
+        struct wko_session s = wko_exchange(wko_fresh(), begin, 40, answer_page, 40).session;
+        CHECK(s.begun == 1, "an accepted begin frame leaves %d", s.begun);
+        s.begun = (uint8_t)byte;
+        CHECK(wko_exchange(s, query, 40, answer_page, 40).number == (byte == 1 ? 0u : 10u), "a query where the byte is %d", byte);
+        check_frame(&s, query, 40, 40);
+        check_frame(&s, step, 40, 40);
+        CHECK(s.begun == byte && s.done == (byte == 1), "the session after a step where the byte is %d", byte);
+    }
+}
+
 int main(void)
 {
     struct wko_session fresh = wko_fresh();
     frame_page = guarded_page();
     answer_page = guarded_page();
     CHECK(!fresh.begun && fresh.done == 0 && !model_has_begun(&fresh), "a fresh session has not begun");
+    check_begun_bytes();
     for (long k = 0; k < 50000; k++) {
         history(1);
         history(0);

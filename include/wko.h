@@ -22,7 +22,6 @@
 #ifndef WKO_H
 #define WKO_H
 
-#include <stdbool.h>
 #include <stddef.h>
 #include <stdint.h>
 
@@ -62,7 +61,7 @@ struct wko_setting {
 };
 
 struct wko_session {
-    bool begun;
+    uint8_t begun; /* 1: a round has begun; any other value: none has */
     size_t n;
     uint8_t rule;
     struct wko_setting setting;

@@ -1,6 +1,7 @@
 -- Readers of text (document 01, "The printed round"). A reader looks at the start of a text only, and says how many bytes it took.
 use mathlib.Core.Bool.{Bool, false, cond, not, _&&_}
 use mathlib.Core.List.{List, [], _∷_}
+use Prim.Native.Char.{code}
 use Prim.Native.Nat.{ℕ, zero, suc, _+_, _-_, _*_, _≤_}
 use lib.Dec.{leb, ltb, eqb}
 use lib.IntN.{ℤ, pos, negsuc}
@@ -47,7 +48,7 @@ ended p b s = closed b (p s) s
 
 -- how many digits the text starts with
 abbrev pub isDigit : ℕ → Bool
-isDigit b = leb 48 b && leb b 57
+isDigit b = leb (code "0") b && leb b (code "9")
 
 unfoldable pub run : List ℕ → ℕ
 run [] = 0
@@ -56,16 +57,16 @@ run (b ∷ s) = cond (isDigit b) (suc (run s)) 0
 -- nothing but digits
 pub data Digits : List ℕ → Type 0 where
   none : Digits []
-  more : {b : ℕ} {s : List ℕ} → 48 ≤ b → b ≤ 57 → Digits s → Digits (b ∷ s)
+  more : {b : ℕ} {s : List ℕ} → code "0" ≤ b → b ≤ code "9" → Digits s → Digits (b ∷ s)
 
 -- the number that digits stand for, read behind those of v
 unfoldable pub value : ℕ → List ℕ → ℕ
 value v [] = v
-value v (b ∷ s) = value (v * 10 + (b - 48)) s
+value v (b ∷ s) = value (v * 10 + (b - code "0")) s
 
 -- one to six digits; before others there is no zero
 unfoldable pub wellWritten : ℕ → List ℕ → Bool
-wellWritten k s = leb 1 k && (leb k 6 && not (ltb 1 k && startsWith 48 s))
+wellWritten k s = leb 1 k && (leb k 6 && not (ltb 1 k && startsWith (code "0") s))
 
 -- a decimal: all the digits that the text starts with
 unfoldable pub number : Reader ℕ
@@ -82,12 +83,12 @@ positive (found v k) = found (pos v) k
 positive missing = missing
 
 unfoldable pub signedNumber : Reader ℤ
-signedNumber s = cond (startsWith 45 s) (negative (number (drop 1 s))) (positive (number s))
+signedNumber s = cond (startsWith (code "-") s) (negative (number (drop 1 s))) (positive (number s))
 
 -- one decimal, or with a comma after it more of them
 unfoldable pub commaThen : Found ℕ → Reader (List ℕ) → Reader (List ℕ)
 commaThen (found v k) q s =
-    cond (startsWith 44 (drop k s)) (further (suc k) (λ l. v ∷ l) (q (drop (suc k) s))) (found (v ∷ []) k)
+    cond (startsWith (code ",") (drop k s)) (further (suc k) (λ l. v ∷ l) (q (drop (suc k) s))) (found (v ∷ []) k)
 commaThen missing q s = missing
 
 -- decimals joined by single commas, at least one and at most k

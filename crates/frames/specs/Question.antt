@@ -1,6 +1,7 @@
 -- The fields of a question (document 01, "Frames").
 use mathlib.Core.Bool.{Bool, _&&_}
 use mathlib.Core.List.{List, [], _∷_}
+use Prim.Native.Char.{code}
 use Prim.Native.Nat.{ℕ}
 use Rattle.frames.specs.declared.level.Setting.{Setting}
 use Rattle.frames.specs.Fields.{ascii, byte, part, zeros, sameBytes, unsigned16, unsigned64, signed16}
@@ -19,13 +20,13 @@ kindIn f = byte f 4
 
 -- the letters of the kinds: B (begin), S (step), Q (query)
 abbrev pub letterB : ℕ
-letterB = 66
+letterB = code "B"
 
 abbrev pub letterS : ℕ
-letterS = 83
+letterS = code "S"
 
 abbrev pub letterQ : ℕ
-letterQ = 81
+letterQ = code "Q"
 
 -- 5: n
 abbrev pub lengthIn : List ℕ → ℕ

@@ -28,7 +28,7 @@ use Rattle.sheets.specs.Judgement.{judgedText}
 -- a line: step number, symbol appended, level, window after; single spaces, and a line feed at the end
 unfoldable pub lineText : ℕ → ℕ → ℤ → List ℕ → List ℕ
 lineText k symbol level w =
-    (decimal k ++ (32 ∷ [])) ++ ((decimal symbol ++ (32 ∷ [])) ++ ((signed level ++ (32 ∷ [])) ++ (joined w ++ (10 ∷ []))))
+    (decimal k ++ ascii " ") ++ ((decimal symbol ++ ascii " ") ++ ((signed level ++ ascii " ") ++ (joined w ++ ascii "\n")))
 
 -- the line of the window w after k steps: the symbol appended is its newest
 unfoldable pub stepLine : ℕ → ℕ → Setting → List ℕ → List ℕ
@@ -53,7 +53,7 @@ refusedLine = ascii "refused\n"
 
 unfoldable pub openingText : Verdict → List ℕ
 openingText Accepted = heading
-openingText (Refused cause) = refusedLine ++ (decimal (causeNumber cause) ++ (10 ∷ []))
+openingText (Refused cause) = refusedLine ++ (decimal (causeNumber cause) ++ ascii "\n")
 
 -- how many steps are printed: a(n) where the sheet is accepted
 unfoldable pub stepsOf : Verdict → ℕ → ℕ

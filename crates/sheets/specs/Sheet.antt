@@ -3,6 +3,7 @@ use mathlib.Core.Bool.{cond}
 use mathlib.Core.List.{List, [], _∷_, _++_, List·Memᴰ}
 use mathlib.Core.Option.{Option, none, some}
 use mathlib.Core.Path.{_≡_}
+use Prim.Native.Char.{code}
 use Prim.Native.Nat.{ℕ, _≤_}
 use lib.Dec.{leb, eqb}
 use lib.IntN.{ℤ, natAbs}
@@ -26,13 +27,13 @@ titleLine = ascii "n rule top spacing start\n"
 
 -- a field and the space after it
 abbrev pub spaced : List ℕ → List ℕ
-spaced t = t ++ (32 ∷ [])
+spaced t = t ++ ascii " "
 
 -- the two lines: single spaces between the fields, a line feed at the end
 unfoldable pub sheetText : RawSheet → List ℕ
 sheetText x =
     titleLine ++ ((spaced (decimal (x .n)) ++ spaced (decimal (x .rule))) ++ ((spaced (signed (x .top)) ++ spaced (decimal (x .spacing)))
-    ++ (joined (x .start) ++ (10 ∷ []))))
+    ++ (joined (x .start) ++ ascii "\n")))
 
 -- a decimal has at most 6 digits
 abbrev pub Short : ℕ → Type 0
@@ -58,18 +59,18 @@ pub record IsText (x : RawSheet) (s : List ℕ) : Type 0 where
 
 -- n and the rule, with a space after each
 unfoldable pub lengthAndRule : Reader (ℕ × ℕ)
-lengthAndRule = both (ended number 32) (ended number 32)
+lengthAndRule = both (ended number (code " ")) (ended number (code " "))
 
 -- top and spacing, the same
 unfoldable pub topAndSpacing : Reader (ℤ × ℕ)
-topAndSpacing = both (ended signedNumber 32) (ended number 32)
+topAndSpacing = both (ended signedNumber (code " ")) (ended number (code " "))
 
 -- the second line
 abbrev pub Fields : Type 0
 Fields = (ℕ × ℕ) × ((ℤ × ℕ) × List ℕ)
 
 unfoldable pub fields : Reader Fields
-fields = both lengthAndRule (both topAndSpacing (ended (numbers 16) 10))
+fields = both lengthAndRule (both topAndSpacing (ended (numbers 16) (code "\n")))
 
 abbrev pub sheetOf : Fields → RawSheet
 sheetOf ((n, rule), ((top, spacing), start)) = record { n = n; rule = rule; top = top; spacing = spacing; start = start }

@@ -12,7 +12,7 @@ use Rattle.weak_orders.proofs.FormTests.{says-length}
 use Rattle.weak_orders.specs.Says.{Says}
 use Rattle.weak_orders.specs.Window.{isLength}
 use Rattle.weak_orders.proofs.Padded.{take-padded, shifted-length}
-use Rattle.weak_orders.proofs.Tests.{by-test, says-and, says-as, says-itself}
+use Rattle.weak_orders.proofs.Tests.{by-test, says-and, says-as, says-eq, says-itself, says-le}
 use Rattle.ranking.specs.Counts.{a}
 use Rattle.successors.specs.Rules.{ruleOf, inForm, isRule, step}
 use Rattle.successors.proofs.StepForm.{step-in-form}
@@ -25,7 +25,6 @@ use Rattle.frames.specs.Fields.{zeros}
 use Rattle.frames.specs.Level.{settingOk}
 use Rattle.frames.specs.Question.{isQuestion, kindIn, letterB, letterS, letterQ, numberIn, reservedB, reservedS, reservedQ}
 use Rattle.frames.specs.Answer.{accepted, stateReply}
-use Rattle.weak_orders.proofs.Tests.{says-le}
 use Rattle.frames.proofs.Padding.{unused-padded}
 use Rattle.stepper.specs.declared.session.Exchanged.{Exchanged}
 use Rattle.stepper.specs.declared.session.Session.{Session}
@@ -74,14 +73,14 @@ begin-judged s = judged (isLength (s .n)) (isRule (s .rule)) (windowOk (s .n) (s
 
 -- What `hasBegun` says of a session.
 pub record Begun (s : Session) : Type 0 where
-  pub flag : s .begun ≡ true
+  pub flag : s .begun ≡ 1
   pub round : RoundOk (s .n) (s .rule) (s .window) (s .setting)
   pub within : s .done ≤ a (s .n)
 
 pub says-begun : (s : Session) → Says (hasBegun s) (Begun s)
 unfolding hasBegun
 says-begun s = rw (begin-judged s) (says-as
-    (says-and (says-itself (s .begun)) (says-and (says-round (s .n) (s .rule) (s .window) (s .setting)) (says-le (s .done) (a (s .n)))))
+    (says-and (says-eq (s .begun) 1) (says-and (says-round (s .n) (s .rule) (s .window) (s .setting)) (says-le (s .done) (a (s .n)))))
     (λ (flag, (round, within)). record { flag = flag; round = round; within = within })
     (λ b. (b .flag, (b .round, b .within))))
 

@@ -32,19 +32,19 @@ pub looked-up : (n m : ℕ) → n ≤ 16 → m ≡ cond (leb n 16) (a n) 0 → m
 looked-up n m h e = rw (le-leb n 16 h) at e
 
 -- Whether a session has begun, by the reply that a begin frame for its round would get.
-module _ (s : Session) (reply : Reply) (flag : s .begun ≡ true) (judged : reply ≡ beginReply s) where
+module _ (s : Session) (reply : Reply) (flag : s .begun ≡ 1) (judged : reply ≡ beginReply s) where
   pub begun-accepted : (m : ℕ) → m ≡ cond (leb (s .n) 16) (a (s .n)) 0 → accepted reply ≡ true → leb (s .done) m ≡ hasBegun s
   unfolding hasBegun
   begun-accepted m e t =
       let t′ : accepted (beginReply s) ≡ true = ap accepted (sym judged) ∙ t in
       let round = says-round (s .n) (s .rule) (s .window) (s .setting) .to (sym (begin-judged s) ∙ t′) in
-      rw (flag, t′, looked-up (s .n) m (round .high) e)
+      rw (eq-eqb (s .begun) 1 flag, t′, looked-up (s .n) m (round .high) e)
 
   pub begun-refused : accepted reply ≡ false → false ≡ hasBegun s
   unfolding hasBegun
   begun-refused t =
       let t′ : accepted (beginReply s) ≡ false = ap accepted (sym judged) ∙ t in
-      rw (flag, t′)
+      rw (eq-eqb (s .begun) 1 flag, t′)
 
 -- A begin frame, accepted or refused.
 module _ (s : Session) (f : List ℕ) (reply : Reply) (reserved : reservedB f ≡ true) (judged : reply ≡ beginReply (roundIn f)) where

@@ -94,7 +94,7 @@ windowAfter g k = iter (step (ruleOf (ruleIn g))) k (startOf g)
 unfoldable pub sessionAt : List ℕ → ℕ → Session
 unfolding settingIn padded windowAfter
 sessionAt g k =
-    record { begun = true; n = lengthIn g; rule = ruleIn g; setting = settingIn g; window = padded (windowAfter g k); done = k }
+    record { begun = 1; n = lengthIn g; rule = ruleIn g; setting = settingIn g; window = padded (windowAfter g k); done = k }
 
 -- the reply to a step frame numbered k, and its forty bytes
 unfoldable pub replyAt : List ℕ → ℕ → Reply

@@ -4,6 +4,7 @@ use mathlib.Core.Bool.{true}
 use mathlib.Core.List.{List, [], _∷_, _++_, map}
 use mathlib.Core.Option.{some}
 use mathlib.Core.Path.{_≡_}
+use Prim.Native.Char.{code}
 use Prim.Native.Nat.{ℕ}
 use lib.IntN.{negsuc}
 use lib.ListN.{take, set, replicate, getElem?}
@@ -13,7 +14,7 @@ use Rattle.refusals.specs.declared.Cause.the-variants.{RuleNumber, NotWeakOrder
 use Rattle.frames.specs.declared.answer.Reply.{Reply}
 use Rattle.frames.specs.declared.answer.Reply.the-variants.{Accepted, Refused}
 use Rattle.frames.specs.Answer.{accepted, stateReply}
-use Rattle.frames.specs.Fields.{bytes64}
+use Rattle.frames.specs.Fields.{ascii, bytes64}
 use Rattle.frames.specs.Question.{numberIn}
 use Rattle.stepper.specs.declared.session.Session.{Session}
 use Rattle.stepper.specs.Exchange.{fresh, Outcome, exchange}
@@ -22,13 +23,13 @@ use Rattle.stepper.specs.ExactlyOnce.{roundOf, countOf, Request, arrival
 -- a B frame, an S frame numbered k < 256, a Q frame
 unfoldable pub beginning : List ℕ
 beginning =
-    (87 ∷ 75 ∷ 79 ∷ 49 ∷ 66 ∷ 2 ∷ 1 ∷ 0 ∷ []) ++ replicate 8 0 ++ (24 ∷ 252 ∷ 100 ∷ 0 ∷ 0 ∷ 0 ∷ 0 ∷ 0 ∷ 1 ∷ 1 ∷ []) ++ replicate 14 0
+    ascii "WKO1B" ++ (2 ∷ 1 ∷ 0 ∷ []) ++ replicate 8 0 ++ (24 ∷ 252 ∷ 100 ∷ 0 ∷ 0 ∷ 0 ∷ 0 ∷ 0 ∷ 1 ∷ 1 ∷ []) ++ replicate 14 0
 
 unfoldable pub stepping : ℕ → List ℕ
-stepping k = (87 ∷ 75 ∷ 79 ∷ 49 ∷ 83 ∷ 0 ∷ 0 ∷ 0 ∷ k ∷ []) ++ replicate 31 0
+stepping k = ascii "WKO1S" ++ (0 ∷ 0 ∷ 0 ∷ k ∷ []) ++ replicate 31 0
 
 unfoldable pub asking : List ℕ
-asking = (87 ∷ 75 ∷ 79 ∷ 49 ∷ 81 ∷ []) ++ replicate 35 0
+asking = ascii "WKO1Q" ++ replicate 35 0
 
 -- a buffer of m sevens
 unfoldable pub lent : ℕ → List ℕ
@@ -43,14 +44,14 @@ ordered = sent (stepping 1) 40 ∷ sent (stepping 2) 41 ∷ sent (stepping 3) 64
 unfoldable pub arrived : List Request
 arrived =
     sent (stepping 1) 42 ∷ sent (stepping 1) 40 ∷ sent (stepping 2) 39 ∷ sent (stepping 3) 40 ∷ sent (stepping 2 ++ (0 ∷ [])) 40
-    ∷ sent (set (stepping 2) 2 65) 40 ∷ sent (set (stepping 2) 39 1) 40 ∷ sent (stepping 0) 40 ∷ sent (stepping 2) 40
+    ∷ sent (set (stepping 2) 2 (code "A")) 40 ∷ sent (set (stepping 2) 39 1) 40 ∷ sent (stepping 0) 40 ∷ sent (stepping 2) 40
     ∷ sent (stepping 3) 40 ∷ sent (stepping 4) 40 ∷ sent (stepping 3) 40 ∷ []
 
 -- a session that no frame could have left
 unfoldable pub odd : Session
 odd =
     record {
-      begun = true;
+      begun = 1;
       n = 200;
       rule = 9;
       setting = record { top = negsuc 32767; spacing = 0 };
@@ -81,10 +82,10 @@ pub record Instance : Type 0 where
       ≡ (1 ∷ 2 ∷ []) ∷ (2 ∷ 1 ∷ []) ∷ (1 ∷ 1 ∷ []) ∷ []
   -- the buffers of the first, the third and the fourth frame
   pub answer : getElem? (map (λ (o : Outcome). o .1) (run leftRetried arrived)) 0
-      ≡ some ((87 ∷ 75 ∷ 65 ∷ 49 ∷ 0 ∷ 2 ∷ 2 ∷ 0 ∷ 1 ∷ []) ++ replicate 7 0
+      ≡ some (ascii "WKA1" ++ (0 ∷ 2 ∷ 2 ∷ 0 ∷ 1 ∷ []) ++ replicate 7 0
       ++ (180 ∷ 251 ∷ 255 ∷ 255 ∷ 0 ∷ 0 ∷ 0 ∷ 0 ∷ 1 ∷ 2 ∷ []) ++ replicate 14 0 ++ (7 ∷ 7 ∷ []))
   pub untouched : getElem? (map (λ (o : Outcome). o .1) (run leftRetried arrived)) 2 ≡ some (replicate 39 7)
-  pub refusal : getElem? (map (λ (o : Outcome). o .1) (run leftRetried arrived)) 3 ≡ some ((87 ∷ 75 ∷ 65 ∷ 49 ∷ 11 ∷ []) ++ replicate 35 0)
+  pub refusal : getElem? (map (λ (o : Outcome). o .1) (run leftRetried arrived)) 3 ≡ some (ascii "WKA1" ++ (11 ∷ []) ++ replicate 35 0)
   pub both : ExactlyOnce beginning leftReference leftRetried ordered arrived
 
 -- the reply to a frame, by a fresh session and by the one that the begin frame leaves
@@ -107,8 +108,8 @@ pub record Fields : Type 0 where
   pub heights : exchange leftHeights (stepping 1) (lent 40) .0 .reply ≡ Accepted 1 (negsuc 1099)
 
 pub record Refusals : Type 0 where
-  pub header : Refuses ((0, 0) ∷ (1, 0) ∷ (2, 65) ∷ (3, 50) ∷ []) FrameHeader
-  pub kind : Refuses ((4, 0) ∷ (4, 98) ∷ []) FrameKind
+  pub header : Refuses ((0, 0) ∷ (1, 0) ∷ (2, code "A") ∷ (3, code "2") ∷ []) FrameHeader
+  pub kind : Refuses ((4, 0) ∷ (4, code "b") ∷ []) FrameKind
   pub reserved : Refuses ((7, 1) ∷ (8, 1) ∷ (15, 1) ∷ (20, 1) ∷ (23, 1) ∷ []) ReservedByte
   pub length : Refuses ((5, 0) ∷ (5, 17) ∷ (5, 255) ∷ []) WindowLength
   pub rule : Refuses ((6, 0) ∷ (6, 4) ∷ []) RuleNumber

@@ -36,15 +36,15 @@ beginReply s =
     cond (not (settingOk (s .n) (s .setting))) (Refused LevelSetting)
     stateReply)))
 
--- a session that would get a B refused, or whose steps done exceed a(n), counts as not begun
+-- a session that would get a B refused, or whose steps done exceed a(n), counts as not begun; so does one whose first byte is not 1
 unfoldable pub hasBegun : Session → Bool
 unfolding accepted beginReply a
-hasBegun s = s .begun && (accepted (beginReply s) && leb (s .done) (a (s .n)))
+hasBegun s = eqb (s .begun) 1 && (accepted (beginReply s) && leb (s .done) (a (s .n)))
 
 -- a fresh session has not begun
 unfoldable pub fresh : Session
 fresh =
-    record { begun = false; n = 0; rule = 0; setting = record { top = pos 0; spacing = 0 }; window = replicate 16 0; done = 0 }
+    record { begun = 0; n = 0; rule = 0; setting = record { top = pos 0; spacing = 0 }; window = replicate 16 0; done = 0 }
 
 -- a refusal leaves the session
 abbrev pub refuse : Session → Cause → Exchanged
@@ -54,7 +54,7 @@ refuse s cause = record { session = s; reply = Refused cause }
 unfoldable pub roundIn : List ℕ → Session
 unfolding settingIn windowIn
 roundIn f =
-    record { begun = true; n = lengthIn f; rule = ruleIn f; setting = settingIn f; window = windowIn f; done = 0 }
+    record { begun = 1; n = lengthIn f; rule = ruleIn f; setting = settingIn f; window = windowIn f; done = 0 }
 
 -- B, from test 5 on
 unfoldable pub beginFrame : Session → List ℕ → Exchanged

@@ -28,7 +28,7 @@ fn round_in(f: [u8; 40]) -> Session
     let setting = question::setting_in(f);
     let window = question::window_in(f);
     Session {
-        begun: true,
+        begun: 1,
         n: f[5] as usize,
         rule: f[6],
         setting: setting,

@@ -10,10 +10,11 @@ use frames::answer::Reply;
 use frames::level::Setting;
 use refusals::Cause;
 
-// A session. Any values of the fields may be handed in; `has_begun` judges them.
+// A session. Any values of the fields may be handed in; `has_begun` judges them. `begun` is a byte, since a session that a device kept
+// may hold any: 1 has begun, every other value has not.
 #[repr(C)]
 pub struct Session {
-    pub begun: bool,
+    pub begun: u8,
     pub n: usize,
     pub rule: u8,
     pub setting: Setting,
@@ -77,7 +78,7 @@ impl Session {
         ensures { λ r. ⌜ r ≡ fresh ⌝ }
     {
         Session {
-            begun: false,
+            begun: 0,
             n: 0,
             rule: 0,
             setting: Setting { top: 0, spacing: 0 },
@@ -103,7 +104,7 @@ impl Session {
         let n = self.n;
         let done = self.done;
         let begun = self.begun;
-        if !begun {
+        if begun != 1 {
             return false;
         }
         let reply = begin_reply(self);

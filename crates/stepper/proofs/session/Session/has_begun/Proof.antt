@@ -1,5 +1,5 @@
 -- `Session::has_begun` meets its contract: the reply is the one that a begin frame would get. Assumes nothing.
-use borrow.Author.Tests.{not-true, not-false}
+use borrow.Author.Tests.{ne-eqb}
 use Rattle.frames.specs.Answer.{accepted}
 use Rattle.stepper.specs.Exchange.{hasBegun}
 use Rattle.stepper.proofs.Cases.{begun-accepted, begun-refused}
@@ -9,7 +9,7 @@ use Rattle.stepper.proofs.session.Session.has_begun.Tie as tie
 
 returns : tie.Need-returns
 unfolding hasBegun
-returns c = rw (not-true (c .before .args .self .begun) (c .if1 .taken))
+returns c = rw (ne-eqb (c .before .args .self .begun) 1 (c .if1 .taken))
 
 begin-reply-requires : tie.Need-begin-reply-requires
 begin-reply-requires c κs = search needs
@@ -29,7 +29,7 @@ returns-2 c =
     let told = c .before in
     let judged = told .before .before in
     let s = judged .before .before .args .self in
-    begun-accepted s _ (not-false (s .begun) (judged .before .if1 .left)) (judged .begin-reply .ensures) _
+    begun-accepted s _ (judged .before .if1 .left) (judged .begin-reply .ensures) _
     (c .weak-order-count .ensures) (rw (told .enum-told .given .1))
 
 returns-3 : tie.Need-returns-3
@@ -37,7 +37,7 @@ unfolding accepted
 returns-3 c =
     let judged = c .before .before in
     let s = judged .before .before .args .self in
-    begun-refused s _ (not-false (s .begun) (judged .before .if1 .left)) (judged .begin-reply .ensures) (rw (c .enum-told2 .given .1))
+    begun-refused s _ (judged .before .if1 .left) (judged .begin-reply .ensures) (rw (c .enum-told2 .given .1))
 
 pub has-begun-spec : {M : Type 1} → statement M
 has-begun-spec =
