@@ -14,14 +14,10 @@ use Rattle.ranking.specs.declared.Placed.the-variants.{At, Refused}
 use Rattle.ranking.specs.Counts.{a}
 use Rattle.ranking.specs.Dictionary.{place, windowAt}
 
--- a place for an answer, by the verdict on the window; and the verdict that an answer stands for
+-- a place for an answer, by the verdict on the window
 unfoldable pub placeBy : Verdict → ℕ → Placed
 placeBy Passed k = At k
 placeBy (Failed cause) k = Refused cause
-
-abbrev pub placedVerdict : Placed → Verdict
-placedVerdict (At k) = Passed
-placedVerdict (Refused cause) = Failed cause
 
 -- the place of a height window of n
 unfoldable pub placed : ℕ → List ℕ → Placed

@@ -13,3 +13,4 @@ pub mod SetRTests
 pub mod RuleNumbers
 pub mod StepForm
 pub mod Steppable
+pub mod Claims

@@ -1,3 +1,4 @@
 pub mod Rules
 pub mod ByTable
 pub mod NextSymbol
+pub mod Claims

@@ -17,7 +17,7 @@ use Rattle.ranking.proofs.Places.{heights-numbered, ranks-numbered}
 use Rattle.successors.specs.Rules.{rule1, rule2, rule3, ruleOf, inForm, isRule, step}
 use Rattle.successors.proofs.FirstSymbol.{change, turn-change}
 use Rattle.successors.proofs.StepForm.{step-length, step-in-form}
-use Rattle.universal_cycle.specs.Round.{Tour, WeakOrder, UniversalCycle}
+use Rattle.universal_cycle.specs.Round.{Tour, WeakOrder, UniversalCycle, Connected}
 use Rattle.universal_cycle.proofs.Agreeing.{same-tour}
 use Rattle.universal_cycle.proofs.Joined.{Joined, one-cycle}
 use Rattle.universal_cycle.proofs.RotationClasses1.{joined1}
@@ -60,3 +60,6 @@ universal-cycle r t (suc m) pos = by-rule
     (steps rule2 (joined2 m) (λ w p. omega arith) (heights-numbered (suc m)))
     (steps rule3 (joined3 m) (λ w p. omega arith) (heights-numbered (suc m)))
     r t
+
+pub weak-orders-connected : Connected
+weak-orders-connected r t n pos u v p q = let o = universal-cycle r t n pos u p .once v q in (o .when, o .met)

@@ -13,3 +13,4 @@ pub mod Bits
 pub mod Padded
 pub mod FormTests
 pub mod Judged
+pub mod Claims

@@ -4,3 +4,4 @@ pub mod Order
 pub mod Rotation
 pub mod Tables
 pub mod Converted
+pub mod Claims

@@ -50,7 +50,7 @@ unfoldable pub windowGiven : ℕ → WindowAnswer → List ℕ → Outcome
 unfolding withRoom delivered
 windowGiven n x out = delivered (withRoom n (length out) (x .verdict)) (take n (x .window)) out
 
--- a place for an answer: eight bytes, little-endian
+-- a place for an answer, case by case: accepted with eight bytes, little-endian, or refused
 abbrev pub placeBytes : Placed → PlaceBytes
 placeBytes (At k) = record { verdict = Accepted; bytes = bytes64 k }
 placeBytes (Unplaced cause) = record { verdict = Refused cause; bytes = replicate 8 0 }
