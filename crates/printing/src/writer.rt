@@ -8,7 +8,7 @@ ghost use Rattle.decimals.specs.Text.{decimal, signed, commaed, joined};
 ghost use Rattle.printing.specs.Writing.{Wrote};
 
 // One byte.
-pub fn put(out: &mut [u8], at: usize, b: u8) -> usize
+pub(crate) fn put(out: &mut [u8], at: usize, b: u8) -> usize
     requires { ⌜ at < length (now out) ⌝ }
     ensures { λ r. ⌜ Wrote (now (out .entry)) at (b ∷ []) r (now (out .exit)) ⌝ }
 {
@@ -17,7 +17,7 @@ pub fn put(out: &mut [u8], at: usize, b: u8) -> usize
 }
 
 // A decimal, the digits before the last one first.
-pub fn put_decimal(out: &mut [u8], at: usize, v: u64) -> usize
+pub(crate) fn put_decimal(out: &mut [u8], at: usize, v: u64) -> usize
     requires { ⌜ at + length (decimal v) ≤ length (now out) ⌝ }
     ensures { λ r. ⌜ Wrote (now (out .entry)) at (decimal v) r (now (out .exit)) ⌝ }
 {
@@ -62,7 +62,7 @@ fn put_others(out: &mut [u8], at: usize, w: [u8; 16], n: usize) -> usize
 }
 
 // A decimal, and the byte behind it.
-pub fn put_decimal_field(out: &mut [u8], at: usize, v: u64, end: u8) -> usize
+pub(crate) fn put_decimal_field(out: &mut [u8], at: usize, v: u64, end: u8) -> usize
     requires { ⌜ at + length (decimal v ++ (end ∷ [])) ≤ length (now out) ⌝ }
     ensures { λ r. ⌜ Wrote (now (out .entry)) at (decimal v ++ (end ∷ [])) r (now (out .exit)) ⌝ }
 {
@@ -71,7 +71,7 @@ pub fn put_decimal_field(out: &mut [u8], at: usize, v: u64, end: u8) -> usize
 }
 
 // A decimal, with a minus before one below zero, and the byte behind it.
-pub fn put_signed_field(out: &mut [u8], at: usize, z: i32, end: u8) -> usize
+pub(crate) fn put_signed_field(out: &mut [u8], at: usize, z: i32, end: u8) -> usize
     requires { ⌜ at + length (signed z ++ (end ∷ [])) ≤ length (now out) ⌝ }
     ensures { λ r. ⌜ Wrote (now (out .entry)) at (signed z ++ (end ∷ [])) r (now (out .exit)) ⌝ }
 {
@@ -84,7 +84,7 @@ pub fn put_signed_field(out: &mut [u8], at: usize, z: i32, end: u8) -> usize
 }
 
 // The symbols of a window joined by commas, and the byte behind them.
-pub fn put_joined_field(out: &mut [u8], at: usize, w: [u8; 16], n: usize, end: u8) -> usize
+pub(crate) fn put_joined_field(out: &mut [u8], at: usize, w: [u8; 16], n: usize, end: u8) -> usize
     requires { ⌜ (1 ≤ n) × (n ≤ 16) × (at + length (joined (take n w) ++ (end ∷ [])) ≤ length (now out)) ⌝ }
     ensures { λ r. ⌜ Wrote (now (out .entry)) at (joined (take n w) ++ (end ∷ [])) r (now (out .exit)) ⌝ }
 {

@@ -77,7 +77,7 @@ fn query_frame(session: Session, f: [u8; 40]) -> Exchanged
 }
 
 // Tests 2 to 4, then by kind.
-pub fn handle(session: Session, frame: &[u8]) -> Exchanged
+pub(crate) fn handle(session: Session, frame: &[u8]) -> Exchanged
     ensures { λ r. ⌜ r ≡ handle session (now (frame .entry)) ⌝ }
 {
     if frame.len() != 40 {
@@ -97,7 +97,7 @@ pub fn handle(session: Session, frame: &[u8]) -> Exchanged
 }
 
 // The forty bytes of an answer. An accepted frame leaves a session that has begun, whose symbols fit the bits of a u32.
-pub fn answer_to(x: Exchanged) -> [u8; 40]
+pub(crate) fn answer_to(x: Exchanged) -> [u8; 40]
     requires { ⌜ (accepted (x .reply) ≡ true → hasBegun (x .session) ≡ true) ⌝ }
     ensures { λ r. ⌜ r ≡ answerTo x ⌝ }
 {
