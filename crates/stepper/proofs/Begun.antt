@@ -28,7 +28,7 @@ use Rattle.frames.specs.Answer.{accepted, stateReply}
 use Rattle.frames.proofs.Padding.{unused-padded}
 use Rattle.stepper.specs.declared.session.Exchanged.{Exchanged}
 use Rattle.stepper.specs.declared.session.Session.{Session}
-use Rattle.stepper.specs.Exchange.{windowOk, beginReply, hasBegun, refuse, roundIn, beginFrame}
+use Rattle.stepper.specs.Exchange.{windowOk, replyIf, beginReply, begunIf, hasBegun, refuse, roundIn, beginFrame}
 use Rattle.stepper.specs.Exchange.{onward, stepped, stepOf, stepFrame, queryOf, queryFrame, handle}
 
 -- What tests 6 to 9 say of a round.
@@ -68,7 +68,7 @@ judged true true true true = refl
 pub begin-judged : (s : Session) →
     accepted (beginReply s)
     ≡ (isLength (s .n) && (isRule (s .rule) && (windowOk (s .n) (s .rule) (s .window) && settingOk (s .n) (s .setting))))
-unfolding beginReply
+unfolding beginReply replyIf windowOk
 begin-judged s = judged (isLength (s .n)) (isRule (s .rule)) (windowOk (s .n) (s .rule) (s .window)) (settingOk (s .n) (s .setting))
 
 -- What `hasBegun` says of a session.
@@ -78,7 +78,7 @@ pub record Begun (s : Session) : Type 0 where
   pub within : s .done ≤ a (s .n)
 
 pub says-begun : (s : Session) → Says (hasBegun s) (Begun s)
-unfolding hasBegun
+unfolding hasBegun begunIf beginReply
 says-begun s = rw (begin-judged s) (says-as
     (says-and (says-eq (s .begun) 1) (says-and (says-round (s .n) (s .rule) (s .window) (s .setting)) (says-le (s .done) (a (s .n)))))
     (λ (flag, (round, within)). record { flag = flag; round = round; within = within })

@@ -1,5 +1,5 @@
 -- The cases of a step frame and of an exchange, each under the tests that lead to it. Assumes nothing.
-use mathlib.Core.Bool.{true, false, cond}
+use mathlib.Core.Bool.{Bool, true, false, false≢true, cond, _&&_}
 use mathlib.Core.List.{List, _++_}
 use mathlib.Core.Path.{_≡_, refl, sym, ap, _∙_}
 use Prim.Native.Nat.{ℕ, _+_, _-_, _≤_, _<_}
@@ -8,12 +8,18 @@ use lib.Dec.{leb}
 use lib.ListN.{length, take, drop}
 use lib.Seq.{length-take-le, getD-take, take-length}
 use borrow.Author.Tests.{le-ltb, le-leb, eq-eqb, ne-eqb}
-use Rattle.weak_orders.specs.Window.{different, height, bound, padded}
+use Rattle.weak_orders.specs.Window.{different, height, bound, isLength, padded}
 use Rattle.weak_orders.proofs.Bits.{different-ones}
+use Rattle.weak_orders.proofs.FormTests.{says-length}
 use Rattle.weak_orders.proofs.Symbols.{bound-find}
+use Rattle.weak_orders.proofs.Tests.{by-test, says?, says-no, not-true→false}
 use Rattle.ranking.specs.Counts.{a}
-use Rattle.successors.specs.Rules.{inForm}
+use Rattle.successors.specs.NextSymbol.{nextSymbol}
+use Rattle.successors.specs.Rules.{ruleOf, inForm}
+use Rattle.successors.specs.declared.Next.the-variants.{Symbol, Refused as NoSymbol}
 use Rattle.successors.proofs.RuleNumbers.{form-bound}
+use Rattle.successors.proofs.Steppable.{Steppable, accepted as yes-judged, steppable-of, symbol-judged, no-symbol}
+use Rattle.refusals.specs.declared.Cause.{Cause}
 use Rattle.refusals.specs.declared.Cause.the-variants.{NotBegun, StepNumber, RoundFinished}
 use Rattle.frames.specs.declared.answer.Reply.{Reply}
 use Rattle.frames.specs.declared.answer.Reply.the-variants.{Accepted, Refused}
@@ -23,28 +29,67 @@ use Rattle.frames.specs.Answer.{accepted, answerBytes, newest}
 use Rattle.frames.proofs.Padding.{padded-take}
 use Rattle.stepper.specs.declared.session.Exchanged.{Exchanged}
 use Rattle.stepper.specs.declared.session.Session.{Session}
-use Rattle.stepper.specs.Exchange.{beginReply, hasBegun, refuse, roundIn, beginFrame, onward, stepped, stepOf}
+use Rattle.stepper.specs.Exchange.{replyIf, beginReply, begunIf, hasBegun, refuse, roundIn, beginFrame, onward, stepped, stepOf}
 use Rattle.stepper.specs.Exchange.{handle, answerTo, exchange}
-use Rattle.stepper.proofs.Begun.{says-round, begin-judged, says-begun}
+use Rattle.stepper.proofs.Begun.{says-begun}
 
 -- a(n), as it is looked up, where n is a window's length
 pub looked-up : (n m : ℕ) → n ≤ 16 → m ≡ cond (leb n 16) (a n) 0 → m ≡ a n
 looked-up n m h e = rw (le-leb n 16 h) at e
 
 -- Whether a session has begun, by the reply that a begin frame for its round would get.
-module _ (s : Session) (reply : Reply) (flag : s .begun ≡ 1) (judged : reply ≡ beginReply s) where
-  pub begun-accepted : (m : ℕ) → m ≡ cond (leb (s .n) 16) (a (s .n)) 0 → accepted reply ≡ true → leb (s .done) m ≡ hasBegun s
-  unfolding hasBegun
-  begun-accepted m e t =
-      let t′ : accepted (beginReply s) ≡ true = ap accepted (sym judged) ∙ t in
-      let round = says-round (s .n) (s .rule) (s .window) (s .setting) .to (sym (begin-judged s) ∙ t′) in
-      rw (eq-eqb (s .begun) 1 flag, t′, looked-up (s .n) m (round .high) e)
+module _ (s : Session) (formed : Bool) (reply : Reply) (flag : s .begun ≡ 1) (judged : reply ≡ replyIf s formed) where
+  high : accepted (replyIf s formed) ≡ true → s .n ≤ 16
+  unfolding replyIf accepted
+  high t = elim (says? (says-length (s .n))) [
+    | yes l ↦ l .1
+    | no l ↦ absurd (false≢true (rw (says-no (says-length (s .n)) l) at t))
+  ]
 
-  pub begun-refused : accepted reply ≡ false → false ≡ hasBegun s
-  unfolding hasBegun
+  pub begun-accepted : (m : ℕ) → m ≡ cond (leb (s .n) 16) (a (s .n)) 0 → accepted reply ≡ true → leb (s .done) m ≡ begunIf s formed
+  unfolding begunIf
+  begun-accepted m e t =
+      let t′ : accepted (replyIf s formed) ≡ true = ap accepted (sym judged) ∙ t in
+      rw (eq-eqb (s .begun) 1 flag, t′, looked-up (s .n) m (high t′) e)
+
+  pub begun-refused : accepted reply ≡ false → false ≡ begunIf s formed
+  unfolding begunIf
   begun-refused t =
-      let t′ : accepted (beginReply s) ≡ false = ap accepted (sym judged) ∙ t in
+      let t′ : accepted (replyIf s formed) ≡ false = ap accepted (sym judged) ∙ t in
       rw (eq-eqb (s .begun) 1 flag, t′)
+
+-- The form's test as code has it.
+module _ (s : Session) where
+  unfoldable pub tested : Bool
+  tested = isLength (s .n) && inForm (s .rule) (take (s .n) (s .window))
+
+  pub reply-tested : replyIf s tested ≡ beginReply s
+  unfolding beginReply replyIf tested
+  reply-tested = by-test (isLength (s .n)) (λ t. rw t) (λ t. rw t)
+
+  pub begun-tested : begunIf s tested ≡ hasBegun s
+  unfolding hasBegun begunIf replyIf accepted tested
+  begun-tested = by-test (isLength (s .n)) (λ t. rw t) (λ t. rw t)
+
+  -- Whether a session has begun, by what gives the next symbol.
+  pub not-begun-if : begunIf s true ≡ false → hasBegun s ≡ false
+  unfolding hasBegun
+  not-begun-if e = not-true→false (hasBegun s) (λ t. false≢true (sym e ∙ rw (says-begun s .to t .round .form) at t))
+
+  module _ (l : length (s .window) ≡ 16) where
+    pub begun-symbol : {x : ℕ} → begunIf s true ≡ true → nextSymbol (s .rule) (s .n) (take (s .n) (s .window)) ≡ Symbol x →
+        (hasBegun s ≡ true) × (isLength (s .n) ≡ true) × (x ≡ ruleOf (s .rule) (take (s .n) (s .window)))
+    unfolding hasBegun
+    begun-symbol t e =
+        let (passed, same) = symbol-judged (s .rule) (s .n) (take (s .n) (s .window)) e in
+        let (known, (long, form)) = steppable-of (s .rule) (s .n) (s .window) l passed in
+        (rw form t, long, same)
+
+    pub begun-no-symbol : {c : Cause} → nextSymbol (s .rule) (s .n) (take (s .n) (s .window)) ≡ NoSymbol c → hasBegun s ≡ false
+    begun-no-symbol e = not-true→false (hasBegun s) (λ t.
+        let round = says-begun s .to t .round in
+        let passed : Steppable (s .rule) (s .n) (s .window) = (round .known, (says-length (s .n) .of (round .low, round .high), round .form)) in
+        no-symbol (s .rule) (s .n) (take (s .n) (s .window)) e (yes-judged (s .rule) (s .n) (s .window) l passed))
 
 -- A begin frame, accepted or refused.
 module _ (s : Session) (f : List ℕ) (reply : Reply) (reserved : reservedB f ≡ true) (judged : reply ≡ beginReply (roundIn f)) where

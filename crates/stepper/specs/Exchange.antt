@@ -26,20 +26,28 @@ unfoldable pub windowOk : ℕ → ℕ → List ℕ → Bool
 unfolding inForm zeros
 windowOk n rule w = inForm rule (take n w) && zeros (drop n w)
 
--- the reply to a B for the round that the session holds: tests 6 to 9
-unfoldable pub beginReply : Session → Reply
-unfolding isLength isRule windowOk settingOk
-beginReply s =
+-- the reply to a B for the round that the session holds: tests 6 to 9, where `formed` says whether its window is in the rule's form
+unfoldable pub replyIf : Session → Bool → Reply
+unfolding isLength isRule zeros settingOk
+replyIf s formed =
     cond (not (isLength (s .n))) (Refused WindowLength) (
     cond (not (isRule (s .rule))) (Refused RuleNumber) (
-    cond (not (windowOk (s .n) (s .rule) (s .window))) (Refused NotWeakOrder) (
+    cond (not (formed && zeros (drop (s .n) (s .window)))) (Refused NotWeakOrder) (
     cond (not (settingOk (s .n) (s .setting))) (Refused LevelSetting)
     stateReply)))
 
+unfoldable pub beginReply : Session → Reply
+unfolding inForm replyIf
+beginReply s = replyIf s (inForm (s .rule) (take (s .n) (s .window)))
+
 -- a session that would get a B refused, or whose steps done exceed a(n), counts as not begun; so does one whose first byte is not 1
+unfoldable pub begunIf : Session → Bool → Bool
+unfolding accepted replyIf a
+begunIf s formed = eqb (s .begun) 1 && (accepted (replyIf s formed) && leb (s .done) (a (s .n)))
+
 unfoldable pub hasBegun : Session → Bool
-unfolding accepted beginReply a
-hasBegun s = eqb (s .begun) 1 && (accepted (beginReply s) && leb (s .done) (a (s .n)))
+unfolding inForm begunIf
+hasBegun s = begunIf s (inForm (s .rule) (take (s .n) (s .window)))
 
 -- a fresh session has not begun
 unfoldable pub fresh : Session

@@ -1,14 +1,19 @@
 // The session: whether it has begun, a step, a query.
-ghost use mathlib.Core.Bool.{true};
+ghost use mathlib.Core.Bool.{true, cond};
 ghost use mathlib.Core.Path.{_≡_};
-ghost use Prim.Native.Nat.{_+_};
-ghost use lib.ListN.{drop};
+ghost use Prim.Native.Nat.{_+_, _<_};
+ghost use lib.Dec.{leb};
+ghost use lib.ListN.{take, drop};
+ghost use Rattle.weak_orders.specs.Says.{Says};
 ghost use Rattle.weak_orders.specs.Window.{isLength};
+ghost use Rattle.ranking.specs.Counts.{a};
+ghost use Rattle.successors.specs.Rules.{ruleOf};
 ghost use Rattle.frames.specs.Fields.{zeros};
-ghost use Rattle.stepper.specs.Exchange.{windowOk, beginReply, hasBegun, fresh, refuse, onward, stepped, stepOf, queryOf};
+ghost use Rattle.stepper.specs.Exchange.{replyIf, beginReply, begunIf, hasBegun, fresh, refuse, onward, stepped, stepOf, queryOf};
 use frames::answer::Reply;
 use frames::level::Setting;
 use refusals::Cause;
+use successors::Next;
 
 // A session. Any values of the fields may be handed in; `has_begun` judges them. `begun` is a byte, since a session that a device kept
 // may hold any: 1 has begun, every other value has not.
@@ -38,29 +43,20 @@ fn unused_zero(w: [u8; 16], n: usize) -> bool
     frames::field::all_zero(&w[n..])
 }
 
-// Test 8, after test 6.
-fn window_ok(n: usize, rule: u8, w: [u8; 16]) -> bool
-    requires { ⌜ isLength n ≡ true ⌝ }
-    ensures { λ r. ⌜ r ≡ windowOk n rule w ⌝ }
-{
-    successors::in_form(rule, w, n) & unused_zero(w, n)
-}
-
-// The reply to a begin frame for the round that the session holds: tests 6 to 9.
-pub fn begin_reply(s: Session) -> Reply
-    ensures { λ r. ⌜ r ≡ beginReply s ⌝ }
+// The reply to a begin frame for the round that the session holds: tests 6 to 9. `formed` says whether its window is in the rule's form.
+fn reply_if(s: Session, formed: bool) -> Reply
+    ensures { λ r. ⌜ r ≡ replyIf s formed ⌝ }
 {
     let n = s.n;
-    let rule = s.rule;
     let w = s.window;
     let setting = s.setting;
     if !weak_orders::is_length(n) {
         return Reply::Refused(Cause::WindowLength);
     }
-    if !successors::is_rule(rule) {
+    if !successors::is_rule(s.rule) {
         return Reply::Refused(Cause::RuleNumber);
     }
-    if !window_ok(n, rule, w) {
+    if !(formed & unused_zero(w, n)) {
         return Reply::Refused(Cause::NotWeakOrder);
     }
     if !frames::level::setting_ok(n, setting) {
@@ -70,6 +66,13 @@ pub fn begin_reply(s: Session) -> Reply
         symbol: 0,
         level: 0,
     }
+}
+
+pub fn begin_reply(s: Session) -> Reply
+    ensures { λ r. ⌜ r ≡ beginReply s ⌝ }
+{
+    let w = s.window;
+    reply_if(s, successors::in_form(s.rule, w, s.n))
 }
 
 impl Session {
@@ -97,9 +100,9 @@ impl Session {
         }
     }
 
-    // Document 01's "counts as begun".
-    pub fn has_begun(self) -> bool
-        ensures { λ r. ⌜ r ≡ hasBegun self ⌝ }
+    // Document 01's "counts as begun", where `formed` says whether the window is in the rule's form.
+    fn begun_if(self, formed: bool) -> bool
+        ensures { λ r. ⌜ r ≡ begunIf self formed ⌝ }
     {
         let n = self.n;
         let done = self.done;
@@ -107,7 +110,7 @@ impl Session {
         if begun != 1 {
             return false;
         }
-        let reply = begin_reply(self);
+        let reply = reply_if(self, formed);
         match reply {
             Reply::Accepted {
                 symbol: _,
@@ -117,16 +120,22 @@ impl Session {
         }
     }
 
-    // The window stepped once, and one more step done, which is `number`.
-    fn onward(self, number: u64) -> Session
-        requires { ⌜ (hasBegun self ≡ true) × (number ≡ self .done + 1) ⌝ }
+    pub fn has_begun(self) -> bool
+        ensures { λ r. ⌜ r ≡ hasBegun self ⌝ }
+    {
+        let w = self.window;
+        self.begun_if(successors::in_form(self.rule, w, self.n))
+    }
+
+    // The symbol appended, and one more step done, which is `number`.
+    fn onward(self, number: u64, symbol: u8) -> Session
+        requires { ⌜ (isLength (self .n) ≡ true) × (symbol ≡ ruleOf (self .rule) (take (self .n) (self .window))) × (number ≡ self .done + 1) ⌝ }
         ensures { λ r. ⌜ r ≡ onward self ⌝ }
     {
         let n = self.n;
-        let rule = self.rule;
         let w = self.window;
         let mut next = self;
-        let v = successors::step(rule, w, n);
+        let v = weak_orders::shift(w, n, symbol);
         next.window = v;
         next.done = number;
         next
@@ -149,11 +158,39 @@ impl Session {
         }
     }
 
-    // A step frame's number: done + 1 steps, done is a resend.
-    pub fn step(self, number: u64) -> Exchanged
-        ensures { λ r. ⌜ r ≡ stepOf self number ⌝ }
+    // The number is done + 1, and the round is not finished.
+    fn is_next(self, number: u64) -> bool
+        ensures { λ r. ⌜ Says r ((number ≡ self .done + 1) × (self .done < cond (leb (self .n) 16) (a (self .n)) 0)) ⌝ }
     {
         let n = self.n;
+        let done = self.done;
+        if number == 0 {
+            return false;
+        }
+        (number - 1 == done) & (done < ranking::weak_order_count(n))
+    }
+
+    // The next step. What gives the symbol tests the window's form, so that it is tested once a frame.
+    fn next_step(self, number: u64) -> Exchanged
+        requires { ⌜ (number ≡ self .done + 1) × (self .done < cond (leb (self .n) 16) (a (self .n)) 0) ⌝ }
+        ensures { λ r. ⌜ r ≡ stepOf self number ⌝ }
+    {
+        let w = self.window;
+        if !self.begun_if(true) {
+            return self.refuse(Cause::NotBegun);
+        }
+        let next = successors::next_symbol(self.rule, w, self.n);
+        match next {
+            Next::Symbol(s) => self.onward(number, s).stepped(),
+            Next::Refused(_) => self.refuse(Cause::NotBegun),
+        }
+    }
+
+    // Any other step frame: done is a resend.
+    fn other_step(self, number: u64) -> Exchanged
+        requires { ⌜ (number ≡ self .done + 1 → self .done < cond (leb (self .n) 16) (a (self .n)) 0 → ⊥) ⌝ }
+        ensures { λ r. ⌜ r ≡ stepOf self number ⌝ }
+    {
         let done = self.done;
         if !self.has_begun() {
             return self.refuse(Cause::NotBegun);
@@ -167,10 +204,17 @@ impl Session {
         if number - 1 != done {
             return self.refuse(Cause::StepNumber);
         }
-        if done == ranking::weak_order_count(n) {
-            return self.refuse(Cause::RoundFinished);
+        self.refuse(Cause::RoundFinished)
+    }
+
+    // A step frame, by its number.
+    pub fn step(self, number: u64) -> Exchanged
+        ensures { λ r. ⌜ r ≡ stepOf self number ⌝ }
+    {
+        if self.is_next(number) {
+            return self.next_step(number);
         }
-        self.onward(number).stepped()
+        self.other_step(number)
     }
 
     // A query frame changes nothing, and has no symbol and no level.

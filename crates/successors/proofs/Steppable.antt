@@ -8,7 +8,9 @@ use lib.Dec.{eqb}
 use lib.ListN.{length, take}
 use lib.Seq.{length-take-le}
 use borrow.Author.Tests.{eq-eqb}
+use Rattle.refusals.specs.declared.Cause.{Cause}
 use Rattle.refusals.specs.declared.Cause.the-variants.{RuleNumber}
+use Rattle.refusals.specs.declared.Verdict.{Verdict}
 use Rattle.refusals.specs.declared.Verdict.the-variants.{Accepted, Refused}
 use Rattle.weak_orders.specs.Says.{Says}
 use Rattle.weak_orders.specs.Converted.{judgedIn}
@@ -17,6 +19,7 @@ use Rattle.weak_orders.proofs.FormTests.{says-length}
 use Rattle.weak_orders.proofs.Judged.{refused, loaded-judged, judged-whole, by-loaded}
 use Rattle.weak_orders.proofs.Tests.{_∈_, by-test, says-and, says-itself}
 use Rattle.successors.specs.NextSymbol.{steppable, stepOrStay, judged, symbolBy, nextSymbol}
+use Rattle.successors.specs.declared.Next.the-variants.{Symbol, Refused as NoSymbol}
 use Rattle.successors.specs.Rules.{ruleOf, inForm, isRule, step}
 use Rattle.successors.proofs.RuleNumbers.{form-bound}
 
@@ -73,3 +76,17 @@ loaded-symbol rule n s = by-loaded (judged rule n) (λ v u. symbolBy v (ruleOf r
     whole-slice e = by-test (isLength n && not (isRule rule))
         (λ t. absurd (refused (rw (by-form rule n s, t) at e)))
         (λ t. judged-whole (inForm rule) n s (rw (by-form rule n s, t) at e))
+
+-- a symbol is answered just for an accepted window, and is the rule's
+module _ (rule n : ℕ) (u : List ℕ) where
+  pub symbol-judged : {x : ℕ} → nextSymbol rule n u ≡ Symbol x → (judged rule n u ≡ Accepted) × (x ≡ ruleOf rule u)
+  unfolding nextSymbol symbolBy
+  symbol-judged {x} e = go (judged rule n u) refl
+    where
+      go : (v : Verdict) → judged rule n u ≡ v → (judged rule n u ≡ Accepted) × (x ≡ ruleOf rule u)
+      go Accepted q = let e′ = rw q at e in (q, cc)
+      go (Refused c) q = let e′ = rw q at e in absurd (let z : _≡_ {A = ℕ} 0 1 = cc in omega arith)
+
+  pub no-symbol : {c : Cause} → nextSymbol rule n u ≡ NoSymbol c → judged rule n u ≡ Accepted → ⊥
+  unfolding nextSymbol symbolBy
+  no-symbol e q = let e′ = rw q at e in let z : _≡_ {A = ℕ} 0 1 = cc in omega arith

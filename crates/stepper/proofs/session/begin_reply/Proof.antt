@@ -1,82 +1,23 @@
--- `begin_reply` meets its contract: its tests are those of the definition, in order. Assumes nothing.
-use mathlib.Core.Bool.{true}
-use mathlib.Core.Path.{_≡_, sym, _∙_}
-use borrow.Author.Tests.{not-true, not-false}
-use Rattle.weak_orders.specs.Window.{isLength}
-use Rattle.successors.specs.Rules.{isRule}
-use Rattle.frames.specs.Level.{settingOk}
-use Rattle.stepper.specs.Exchange.{windowOk, beginReply}
+-- `begin_reply`: the reply by the form's test. Assumes nothing.
+use mathlib.Core.Path.{_≡_, ap, _∙_}
+use Rattle.stepper.specs.Exchange.{replyIf}
+use Rattle.stepper.proofs.Cases.{tested, reply-tested}
 use borrow.Author.Needs.{needs}
 use Rattle.stepper.proofs.session.begin_reply.Statement.{statement}
 use Rattle.stepper.proofs.session.begin_reply.Tie as tie
 
--- what each test that was passed says
-length-ok : (c : tie.Else1) → isLength (c .before .before .before .before .args .s .n) ≡ true
-length-ok c = sym (c .before .is-length .ensures) ∙ not-false _ (c .if1 .left)
+in-form-requires : tie.Need-in-form-requires
+in-form-requires c κs = search needs
 
-rule-ok : (c : tie.Else2) → isRule (c .before .before .before .before .before .before .args .s .rule) ≡ true
-rule-ok c = sym (c .before .is-rule .ensures) ∙ not-false _ (c .if2 .left)
-
-window-passed : (c : tie.Else3) →
-    let s = c .before .before .before .before .before .before .before .before .args .s in
-    windowOk (s .n) (s .rule) (s .window) ≡ true
-window-passed c = sym (c .before .window-ok .ensures) ∙ not-false _ (c .if3 .left)
-
-setting-is : (c : tie.After-setting-ok) →
-    let s = c .before .before .before .before .before .before .before .before .before .args .s in
-    settingOk (s .n) (s .setting) ≡ c .setting-ok .result
-setting-is c = sym (c .setting-ok .ensures ∙ rw (length-ok (c .before .before .before .before .before)))
-
-is-length-requires : tie.Need-is-length-requires
-is-length-requires c κs = search needs
+reply-if-requires : tie.Need-reply-if-requires
+reply-if-requires c κs = search needs
 
 returns : tie.Need-returns
-unfolding beginReply
-returns c = rw (sym (c .before .is-length .ensures) ∙ not-true _ (c .if1 .taken))
-
-is-rule-requires : tie.Need-is-rule-requires
-is-rule-requires c κs = search needs
-
-returns-2 : tie.Need-returns-2
-unfolding beginReply
-returns-2 c = rw (length-ok (c .before .before), sym (c .before .is-rule .ensures) ∙ not-true _ (c .if2 .taken))
-
-window-ok-requires : tie.Need-window-ok-requires
-window-ok-requires c κs = length-ok (c .before .before)
-
-returns-3 : tie.Need-returns-3
-unfolding beginReply
-returns-3 c =
-    let two = c .before .before in
-    rw (length-ok (two .before .before), rule-ok two, sym (c .before .window-ok .ensures) ∙ not-true _ (c .if3 .taken))
-
-setting-ok-requires : tie.Need-setting-ok-requires
-setting-ok-requires c κs = search needs
-
-returns-4 : tie.Need-returns-4
-unfolding beginReply
-returns-4 c =
-    let three = c .before .before in
-    let two = three .before .before in
-    rw (length-ok (two .before .before), rule-ok two, window-passed three, setting-is (c .before) ∙ not-true _ (c .if4 .taken))
-
-returns-5 : tie.Need-returns-5
-unfolding beginReply
-returns-5 c =
-    let three = c .before .before in
-    let two = three .before .before in
-    rw (length-ok (two .before .before), rule-ok two, window-passed three, setting-is (c .before) ∙ not-false _ (c .if4 .left))
+unfolding tested
+returns c =
+    let s = c .before .before .before .args .s in
+    let e : c .before .in-form .result ≡ tested s = c .before .in-form .ensures in
+    c .reply-if .ensures ∙ ap (replyIf s) e ∙ reply-tested s
 
 pub begin-reply-spec : {M : Type 1} → statement M
-begin-reply-spec =
-    tie.close
-    (tie.spec
-    is-length-requires
-    returns
-    is-rule-requires
-    returns-2
-    window-ok-requires
-    returns-3
-    setting-ok-requires
-    returns-4
-    returns-5)
+begin-reply-spec = tie.close (tie.spec in-form-requires reply-if-requires returns)

@@ -1,52 +1,23 @@
--- `Session::has_begun` meets its contract: the reply is the one that a begin frame would get. Assumes nothing.
-use borrow.Author.Tests.{ne-eqb}
-use Rattle.frames.specs.Answer.{accepted}
-use Rattle.stepper.specs.Exchange.{hasBegun}
-use Rattle.stepper.proofs.Cases.{begun-accepted, begun-refused}
+-- `Session::has_begun`: by the form's test. Assumes nothing.
+use mathlib.Core.Path.{_≡_, ap, _∙_}
+use Rattle.stepper.specs.Exchange.{begunIf}
+use Rattle.stepper.proofs.Cases.{tested, begun-tested}
 use borrow.Author.Needs.{needs}
 use Rattle.stepper.proofs.session.Session.has_begun.Statement.{statement}
 use Rattle.stepper.proofs.session.Session.has_begun.Tie as tie
 
+in-form-requires : tie.Need-in-form-requires
+in-form-requires c κs = search needs
+
+begun-if-requires : tie.Need-begun-if-requires
+begun-if-requires c κs = search needs
+
 returns : tie.Need-returns
-unfolding hasBegun
-returns c = rw (ne-eqb (c .before .args .self .begun) 1 (c .if1 .taken))
-
-begin-reply-requires : tie.Need-begin-reply-requires
-begin-reply-requires c κs = search needs
-
-enum-told : tie.Need-enum-told
-enum-told c = search needs
-
-weak-order-count-requires : tie.Need-weak-order-count-requires
-weak-order-count-requires c κs = search needs
-
-enum-told-2 : tie.Need-enum-told-2
-enum-told-2 c = search needs
-
-returns-2 : tie.Need-returns-2
-unfolding accepted
-returns-2 c =
-    let told = c .before in
-    let judged = told .before .before in
-    let s = judged .before .before .args .self in
-    begun-accepted s _ (judged .before .if1 .left) (judged .begin-reply .ensures) _
-    (c .weak-order-count .ensures) (rw (told .enum-told .given .1))
-
-returns-3 : tie.Need-returns-3
-unfolding accepted
-returns-3 c =
-    let judged = c .before .before in
-    let s = judged .before .before .args .self in
-    begun-refused s _ (judged .before .if1 .left) (judged .begin-reply .ensures) (rw (c .enum-told2 .given .1))
+unfolding tested
+returns c =
+    let s = c .before .before .before .args .self in
+    let e : c .before .in-form .result ≡ tested s = c .before .in-form .ensures in
+    c .begun-if .ensures ∙ ap (begunIf s) e ∙ begun-tested s
 
 pub has-begun-spec : {M : Type 1} → statement M
-has-begun-spec =
-    tie.close
-    (tie.spec
-    returns
-    begin-reply-requires
-    enum-told
-    weak-order-count-requires
-    enum-told-2
-    returns-2
-    returns-3)
+has-begun-spec = tie.close (tie.spec in-form-requires begun-if-requires returns)
