@@ -1,21 +1,22 @@
 // The rotations of a window: where the least one starts, and whether the window is the greatest. Both go through the rotations and
 // compare each with the first one so far, and are proved by the same facts over an order.
+ghost use mathlib.Core.List.{List};
 ghost use mathlib.Core.Path.{_≡_};
-ghost use Prim.Native.Nat.{_≤_, _<_};
-ghost use lib.ListN.{take, getD};
+ghost use Prim.Native.Nat.{ℕ, _≤_, _<_};
+ghost use lib.ListN.{length, take, getD};
 ghost use Rattle.weak_orders.specs.Order.{lexLt};
 ghost use Rattle.weak_orders.specs.Rotation.{rotation, start, isGreatest};
 
-// The k-th symbol of the window read cyclically from index i, both counted from 0.
-fn symbol_at(w: [u8; 16], n: usize, i: usize, k: usize) -> u8
+// Where a window of n has the k-th symbol of its rotation from index i, all counted from 0.
+fn cyclic(n: usize, i: usize, k: usize) -> usize
     requires { ⌜ (n ≤ 16) × (i < n) × (k < n) ⌝ }
-    ensures { λ r. ⌜ r ≡ getD (rotation (take n w) i) k 0 ⌝ }
+    ensures { λ r. ⌜ (r < n) × ((w : List ℕ) → n ≤ length w → getD w r 0 ≡ getD (rotation (take n w) i) k 0) ⌝ }
 {
     let j = i + k;
     if j < n {
-        return w[j];
+        return j;
     }
-    w[j - n]
+    j - n
 }
 
 // The rotation from index i stands before the one from j.
@@ -25,8 +26,10 @@ fn precedes(w: [u8; 16], n: usize, i: usize, j: usize) -> bool
 {
     let mut k = 0;
     while k < n {
-        let x = symbol_at(w, n, i, k);
-        let y = symbol_at(w, n, j, k);
+        let a = cyclic(n, i, k);
+        let b = cyclic(n, j, k);
+        let x = w[a];
+        let y = w[b];
         if x < y {
             return true;
         }

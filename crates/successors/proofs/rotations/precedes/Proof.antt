@@ -5,7 +5,7 @@ use mathlib.Core.Path.{_≡_}
 use Prim.Native.Nat.{ℕ, _≤_, _-_}
 use native.Mathlib.Omega.{arith}
 use borrow.Author.Needs.{needs}
-use lib.ListN.{length, take, drop}
+use lib.ListN.{length, take, drop, getD}
 use Rattle.weak_orders.specs.Order.{lexLt}
 use Rattle.weak_orders.specs.Rotation.{rotation}
 use Rattle.successors.proofs.Comparison.{rotation-length, Front, front-less, front-greater, front-equal, lexLt-end}
@@ -13,51 +13,60 @@ use Rattle.successors.proofs.rotations.precedes.Statement.{statement}
 use Rattle.successors.proofs.rotations.precedes.Tie as tie
 
 abbrev Inv-loop : tie.InvT-loop
-Inv-loop w n i j k₀ k =
+Inv-loop n i j w k₀ k =
     (k ≤ n) ×
     (lexLt (rotation (take n w) i) (rotation (take n w) j) ≡ lexLt (drop k (rotation (take n w) i)) (drop k (rotation (take n w) j)))
 
 abbrev μ-loop : tie.MeasureT-loop
-μ-loop w n i j k₀ k = n - k
+μ-loop n i j w k₀ k = n - k
 
 -- the two rotations
 abbrev from-i : tie.Start Inv-loop μ-loop → List ℕ
-from-i s = rotation (take (s .args .n) (s .args .w)) (s .args .i)
+from-i s = rotation (take (s .args .n) (s .args .t1)) (s .args .i)
 
 abbrev from-j : tie.Start Inv-loop μ-loop → List ℕ
-from-j s = rotation (take (s .args .n) (s .args .w)) (s .args .j)
+from-j s = rotation (take (s .args .n) (s .args .t1)) (s .args .j)
 
 long-i : (s : tie.Start Inv-loop μ-loop) → length (from-i s) ≡ s .args .n
 long-i s =
-    let l : length (s .args .w) ≡ 16 = search needs in
-    rotation-length (s .args .w) (s .args .n) (s .args .i) (search needs) (search needs)
+    let l : length (s .args .t1) ≡ 16 = search needs in
+    rotation-length (s .args .t1) (s .args .n) (s .args .i) (search needs) (search needs)
 
 long-j : (s : tie.Start Inv-loop μ-loop) → length (from-j s) ≡ s .args .n
 long-j s =
-    let l : length (s .args .w) ≡ 16 = search needs in
-    rotation-length (s .args .w) (s .args .n) (s .args .j) (search needs) (search needs)
+    let l : length (s .args .t1) ≡ 16 = search needs in
+    rotation-length (s .args .t1) (s .args .n) (s .args .j) (search needs) (search needs)
 
-front : (c : tie.After-symbol-at2 Inv-loop μ-loop) →
+front : (c : tie.After-cyclic2 Inv-loop μ-loop) →
     let p = c .before .before .before in
-    Front (from-i (p .before)) (from-j (p .before)) (p .loop .k) (c .before .symbol-at .result) (c .symbol-at2 .result)
+    let w = p .before .args .t1 in
+    Front (from-i (p .before)) (from-j (p .before)) (p .loop .k) (getD w (c .before .cyclic .result) 0) (getD w (c .cyclic2 .result) 0)
 front c =
     let p = c .before .before .before in
+    let a = p .before .args in
+    let l : length (a .t1) ≡ 16 = search needs in
     record {
       left = p .loop .inv .1;
       in-a = omega (arith, long-i (p .before));
       in-b = omega (arith, long-j (p .before));
-      of-a = c .before .symbol-at .ensures;
-      of-b = c .symbol-at2 .ensures;
+      of-a = c .before .cyclic .ensures .1 (a .t1) (omega arith);
+      of-b = c .cyclic2 .ensures .1 (a .t1) (omega arith);
     }
 
 loop-holds : tie.Need-loop-holds Inv-loop μ-loop
 loop-holds c = search needs
 
-symbol-at-requires : tie.Need-symbol-at-requires Inv-loop μ-loop
-symbol-at-requires c κs = search needs
+cyclic-requires : tie.Need-cyclic-requires Inv-loop μ-loop
+cyclic-requires c κs = search needs
 
-symbol-at-requires-2 : tie.Need-symbol-at-requires-2 Inv-loop μ-loop
-symbol-at-requires-2 c κs = search needs
+cyclic-requires-2 : tie.Need-cyclic-requires-2 Inv-loop μ-loop
+cyclic-requires-2 c κs = search needs
+
+array-read-x : tie.Need-array-read-x Inv-loop μ-loop
+array-read-x c = search needs
+
+array-read-y : tie.Need-array-read-y Inv-loop μ-loop
+array-read-y c = search needs
 
 returns : tie.Need-returns Inv-loop μ-loop
 returns c = front-less _ _ _ _ _ (front (c .before)) (c .if1 .taken)
@@ -86,8 +95,10 @@ precedes-spec =
     Inv-loop
     μ-loop
     loop-holds
-    symbol-at-requires
-    symbol-at-requires-2
+    cyclic-requires
+    cyclic-requires-2
+    array-read-x
+    array-read-y
     returns
     returns-2
     add-k
