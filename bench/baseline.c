@@ -111,17 +111,8 @@ static int next_symbol(int rule, uint8_t *w, int n)
     return rule == 1 ? rule1(w, n) : height_rule(rule, w, n);
 }
 
-void baseline_walk(int rule, uint8_t *w, int n, uint64_t steps)
-{
-    for (uint64_t k = 0; k < steps; k++) {
-        int s = next_symbol(rule, w, n);
-        memmove(w, w + 1, (size_t)(n - 1));
-        w[n - 1] = (uint8_t)s;
-    }
-}
-
 /* A weak order in rank form (rule 1) or in height form. */
-static int in_form(int rule, const uint8_t *w, int n)
+static inline int in_form(int rule, const uint8_t *w, int n)
 {
     uint8_t counts[17] = {0};
     int below = 0;
@@ -140,6 +131,22 @@ static int in_form(int rule, const uint8_t *w, int n)
     return 1;
 }
 
+void baseline_step(int rule, uint8_t *w, int n)
+{
+    int s = next_symbol(rule, w, n);
+    memmove(w, w + 1, (size_t)(n - 1));
+    w[n - 1] = (uint8_t)s;
+}
+
+void baseline_walk(int rule, uint8_t *w, int n, uint64_t steps)
+{
+    for (uint64_t k = 0; k < steps; k++) {
+        if (n < 1 || n > 16 || rule < 1 || rule > 3 || !in_form(rule, w, n))
+            return;
+        baseline_step(rule, w, n);
+    }
+}
+
 uint32_t baseline_next_symbol(uint64_t n, uint64_t rule, const uint8_t *window, size_t window_len)
 {
     uint8_t w[16];
@@ -153,15 +160,17 @@ uint32_t baseline_next_symbol(uint64_t n, uint64_t rule, const uint8_t *window, 
     return (uint32_t)next_symbol((int)rule, w, (int)n);
 }
 
-/* L(n, k), filled by its recurrence. */
-static uint64_t by_symbols[17][17];
+/* L(n, k), filled by its recurrence, and a(n), the sum of a row. */
+static uint64_t by_symbols[17][17], all_windows[17];
 
 static void fill_table(void)
 {
     by_symbols[0][0] = 1;
     for (int n = 1; n <= 16; n++)
-        for (int k = 1; k <= 16; k++)
+        for (int k = 1; k <= 16; k++) {
             by_symbols[n][k] = (uint64_t)k * (by_symbols[n - 1][k] + by_symbols[n - 1][k - 1]);
+            all_windows[n] += by_symbols[n][k];
+        }
 }
 
 static uint64_t power(uint64_t x, uint64_t k)
@@ -218,11 +227,9 @@ static void continuations(const uint8_t *w, int n, int i, uint64_t *counts)
     }
 }
 
-uint64_t baseline_place(const uint8_t *w, int n)
+static uint64_t place_of(const uint8_t *w, int n)
 {
     uint64_t counts[16], place = 0;
-    if (by_symbols[0][0] == 0)
-        fill_table();
     for (int i = 0; i < n; i++) {
         continuations(w, n, i, counts);
         for (int v = 0; v < w[i]; v++)
@@ -231,11 +238,9 @@ uint64_t baseline_place(const uint8_t *w, int n)
     return place;
 }
 
-void baseline_window_at(int n, uint64_t place, uint8_t *w)
+static void window_at(int n, uint64_t place, uint8_t *w)
 {
     uint64_t counts[16];
-    if (by_symbols[0][0] == 0)
-        fill_table();
     for (int i = 0; i < n; i++) {
         int v = 0;
         continuations(w, n, i, counts);
@@ -243,4 +248,35 @@ void baseline_window_at(int n, uint64_t place, uint8_t *w)
             place -= counts[v++];
         w[i] = (uint8_t)v;
     }
+}
+
+uint32_t baseline_place(uint64_t n, const uint8_t *window, size_t window_len, uint8_t *out, size_t out_len)
+{
+    uint64_t place;
+    if (n < 1 || n > 16)
+        return 256 + 6;
+    if (out_len < 8)
+        return 256 + 1;
+    if (window_len != n || !in_form(2, window, (int)n))
+        return 256 + 8;
+    if (by_symbols[0][0] == 0)
+        fill_table();
+    place = place_of(window, (int)n);
+    for (int i = 0; i < 8; i++)
+        out[i] = (uint8_t)(place >> (8 * i));
+    return 0;
+}
+
+uint32_t baseline_window_at(uint64_t n, uint64_t place, uint8_t *out, size_t out_len)
+{
+    if (n < 1 || n > 16)
+        return 256 + 6;
+    if (out_len < n)
+        return 256 + 1;
+    if (by_symbols[0][0] == 0)
+        fill_table();
+    if (place >= all_windows[n])
+        return 256 + 13;
+    window_at((int)n, place, out);
+    return 0;
 }

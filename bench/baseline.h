@@ -4,13 +4,16 @@
 #include <stddef.h>
 #include <stdint.h>
 
-/* Steps of a rule from a window, in place; the rules as in the source paper, with the least rotation found in O(n). */
+/* One step of a rule, in place, without a test; the rules as in the source paper, with the least rotation found in O(n). */
+void baseline_step(int rule, uint8_t *w, int n);
+
+/* Steps of a rule, each with the tests of the proved step: n, the rule, and the window's form. */
 void baseline_walk(int rule, uint8_t *w, int n, uint64_t steps);
 
 /* What wko_next_symbol answers, with the same tests. */
 uint32_t baseline_next_symbol(uint64_t n, uint64_t rule, const uint8_t *window, size_t window_len);
 
-/* The place of a height window and the window at a place, by the library's own algorithm: a recursive count of completions. */
-uint64_t baseline_place(const uint8_t *w, int n);
-void baseline_window_at(int n, uint64_t place, uint8_t *w);
+/* What wko_place and wko_window_at answer, with the same tests, by the library's own algorithm: a recursive count of completions. */
+uint32_t baseline_place(uint64_t n, const uint8_t *window, size_t window_len, uint8_t *out, size_t out_len);
+uint32_t baseline_window_at(uint64_t n, uint64_t place, uint8_t *out, size_t out_len);
 #endif

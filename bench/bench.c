@@ -121,12 +121,12 @@ static uint64_t random64(void)
     return x * 0x2545F4914F6CDD1Du;
 }
 
-/* The same random windows both ways, there and back, with the tests of the C calls on the proved side. */
+/* The same random windows both ways, there and back. */
 static void places(int n, int count)
 {
     static const uint64_t a[17] = {[8] = 545835, [12] = 28091567595, [16] = 5315654681981355};
     static uint64_t at[MOST_PLACES];
-    static uint8_t w[MOST_PLACES][16], v[MOST_PLACES][16], bytes[MOST_PLACES][8];
+    static uint8_t w[MOST_PLACES][16], v[MOST_PLACES][16], by_c[MOST_PLACES][8], bytes[MOST_PLACES][8];
     double place_c = 1e9, place_ours = 1e9, window_c = 1e9, window_ours = 1e9;
     unsigned differ = 0;
     memset(w, 0, sizeof w);
@@ -136,13 +136,13 @@ static void places(int n, int count)
     for (int run = 0; run < RUNS; run++) {
         double t = now();
         for (int k = 0; k < count; k++)
-            baseline_window_at(n, at[k], w[k]);
+            baseline_window_at((uint64_t)n, at[k], w[k], 16);
         t = keep_best(&window_c, t);
         for (int k = 0; k < count; k++)
             wko_window_at((uint64_t)n, at[k], v[k], 16);
         t = keep_best(&window_ours, t);
         for (int k = 0; k < count; k++)
-            differ += baseline_place(w[k], n) != at[k];
+            baseline_place((uint64_t)n, w[k], (size_t)n, by_c[k], 8);
         t = keep_best(&place_c, t);
         for (int k = 0; k < count; k++)
             wko_place((uint64_t)n, v[k], (size_t)n, bytes[k], 8);
@@ -150,6 +150,7 @@ static void places(int n, int count)
         for (int k = 0; k < count; k++)
             for (int i = 0; i < 8; i++)
                 differ += bytes[k][i] != (uint8_t)(at[k] >> (8 * i));
+        differ += memcmp(by_c, bytes, sizeof bytes) != 0;
         differ += memcmp(v, w, sizeof w) != 0;
     }
     printf("n = %2d   place: C %8.2f us, wko_place %8.2f us (%.2f of C)   window: C %8.2f us, wko_window_at %8.2f us (%.2f of C)%s\n", n,
@@ -159,7 +160,7 @@ static void places(int n, int count)
 
 int main(void)
 {
-    printf("One step along the cycle, bare and as a call that tests all it is given.\n");
+    printf("One step along the cycle, in a loop of steps and as a call; each tests n, the rule and the window's form.\n");
     for (int rule = 1; rule <= 3; rule++)
         for (int n = 8; n <= 16; n += 4)
             steps(rule, n, 2000000);

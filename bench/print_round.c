@@ -36,7 +36,7 @@ int main(void)
     puts("step symbol level window");
     fflush(stdout);
     for (long k = 1; k <= counts[n]; k++) {
-        baseline_walk(rule, w, n, 1);
+        baseline_step(rule, w, n);
         put_number(k);
         buffer[used++] = ' ';
         put_number(w[n - 1]);
