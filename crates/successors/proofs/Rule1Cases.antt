@@ -7,7 +7,6 @@ use Prim.Native.Nat.{ℕ, _+_, _-_, _≤_, _<_}
 use native.Mathlib.Numerals.{add-one}
 use lib.Dec.{eqb}
 use lib.ListN.{take, drop, set}
-use lib.Seq.{take-take}
 use borrow.Author.Tests.{lt-ltb, le-ltb, eq-eqb, ne-eqb}
 use Rattle.weak_orders.specs.Rotation.{start}
 use Rattle.weak_orders.specs.Tables.{tally}
@@ -74,18 +73,14 @@ module _ (w t : List ℕ) (n : ℕ) (low : Low (take n w)) (h : t ≡ tally (tak
   plain-scan = all-cong (singleBy t) (single (take n w)) (take n w) (λ v m. singleBy-single t (take n w) h v (low v m))
 
   -- what holds of the symbols of the window holds of those before `start`
-  scan : (f g : ℕ → Bool) → ((v : ℕ) → v ≤ 16 → f v ≡ g v) → (k j : ℕ) → k ≡ j → k - 1 ≤ n →
-      all f (drop 1 (take (k - 1) w)) ≡ all g (before j (take n w))
+  scan : (f g : ℕ → Bool) → ((v : ℕ) → v ≤ 16 → f v ≡ g v) → (j : ℕ) → all f (before j (take n w)) ≡ all g (before j (take n w))
   unfolding before
-  scan f g same k j e kn = rw (← e, ← take-take (k - 1) n w kn)
-      (all-cong f g (drop 1 (take (k - 1) (take n w))) (λ v m. same v (low v (mem-part 1 (k - 1) (take n w) v m))))
+  scan f g same j = all-cong f g (drop 1 (take (j - 1) (take n w))) (λ v m. same v (low v (mem-part 1 (j - 1) (take n w) v m)))
 
-  pub case3-scan : (k : ℕ) → k ≡ start (take n w) → k - 1 ≤ n →
-      all (singleBy t) (drop 1 (take (k - 1) w)) ≡ all (single (take n w)) (before (start (take n w)) (take n w))
-  case3-scan k = scan (singleBy t) (single (take n w)) (singleBy-single t (take n w) h) k (start (take n w))
+  pub case3-scan : (j : ℕ) → all (singleBy t) (before j (take n w)) ≡ all (single (take n w)) (before j (take n w))
+  case3-scan = scan (singleBy t) (single (take n w)) (singleBy-single t (take n w) h)
 
-  pub case4-scan : (p k j : ℕ) → p ≤ 16 → p ≢ 1 → k ≡ j → k - 1 ≤ n →
-      all (singleBy (set t p 0)) (drop 1 (take (k - 1) w)) ≡
-      all (λ v. not (eqb v p) && single (take n w) v) (before j (take n w))
-  case4-scan p k j le ne = scan (singleBy (set t p 0)) (λ v. not (eqb v p) && single (take n w) v)
-      (λ v lv. singleBy-except t (take n w) h p v le ne lv) k j
+  pub case4-scan : (p j : ℕ) → p ≤ 16 → p ≢ 1 →
+      all (singleBy (set t p 0)) (before j (take n w)) ≡ all (λ v. not (eqb v p) && single (take n w) v) (before j (take n w))
+  case4-scan p j le ne = scan (singleBy (set t p 0)) (λ v. not (eqb v p) && single (take n w) v)
+      (λ v lv. singleBy-except t (take n w) h p v le ne lv) j

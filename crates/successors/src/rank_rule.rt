@@ -2,13 +2,15 @@
 use crate::rotations::least_rotation;
 use weak_orders::counts;
 ghost use mathlib.Core.Bool.{true};
+ghost use mathlib.Core.List.{_∷_};
 ghost use mathlib.Core.Path.{_≡_};
-ghost use Prim.Native.Nat.{_≤_};
+ghost use Prim.Native.Nat.{_≤_, _<_};
 ghost use lib.ListN.{take, drop, getD};
+ghost use Rattle.weak_orders.specs.Rotation.{start};
 ghost use Rattle.weak_orders.specs.Tables.{tally};
 ghost use Rattle.weak_orders.specs.Window.{all, isRank};
-ghost use Rattle.successors.specs.ByTable.{singleBy, largestBy, Low};
-ghost use Rattle.successors.specs.Rules.{isPlain, case3, case4, rule1};
+ghost use Rattle.successors.specs.ByTable.{singleBy, largestBy, Low, RepeatBeforeOne};
+ghost use Rattle.successors.specs.Rules.{isPlain, before, largestBelow, case3, case4, rule1};
 
 // Each symbol from index a up to b is 1, or the table has a 1 for it.
 fn all_single(w: [u8; 16], t: [u8; 18], a: usize, b: usize) -> bool
@@ -24,6 +26,40 @@ fn all_single(w: [u8; 16], t: [u8; 18], a: usize, b: usize) -> bool
         i += 1;
     }
     true
+}
+
+// Behind the first symbol and before any 1 stands one for which the table has no 1.
+fn repeat_before_one(w: [u8; 16], n: usize, t: [u8; 18]) -> bool
+    requires { ⌜ (n ≤ 16) × Low (take n w) ⌝ }
+    ensures { λ r. ⌜ (r ≡ true → RepeatBeforeOne (singleBy t) n w) ⌝ }
+{
+    let mut j = 1;
+    while j < n {
+        let v = w[j] as usize;
+        if v == 1 {
+            return false;
+        }
+        if t[v] != 1 {
+            return true;
+        }
+        j += 1;
+    }
+    false
+}
+
+// Each symbol behind the first and before `start` is 1, or the table has a 1 for it, where `start` is that of the window with x first. The
+// least rotation of a rank window starts with a 1, so most windows need no search for it.
+fn single_before_start(w: [u8; 16], n: usize, t: [u8; 18], x: u8) -> bool
+    requires { ⌜ (1 ≤ n) × (n ≤ 16) × Low (take n w) × (1 < x) × (isRank (x ∷ drop 1 (take n w)) ≡ true) ⌝ }
+    ensures { λ r. ⌜ r ≡ all (singleBy t) (before (start (x ∷ drop 1 (take n w))) (take n w)) ⌝ }
+{
+    if repeat_before_one(w, n, t) {
+        return false;
+    }
+    let mut v = w;
+    v[0] = x;
+    let least = least_rotation(v, n);
+    all_single(w, t, 1, least.start - 1)
 }
 
 // The largest symbol below v that the table has, or 0.
@@ -43,7 +79,7 @@ fn largest_below(t: [u8; 18], v: usize) -> usize
 
 // Case 3; `plain` says whether the window is plain.
 fn is_case3(w: [u8; 16], n: usize, t: [u8; 18], plain: bool) -> bool
-    requires { ⌜ (1 ≤ n) × (n ≤ 16) × Low (take n w) × (t ≡ tally (take n w)) × (plain ≡ isPlain (take n w)) ⌝ }
+    requires { ⌜ (1 ≤ n) × (n ≤ 16) × Low (take n w) × (t ≡ tally (take n w)) × (plain ≡ isPlain (take n w)) × (isRank (take n w) ≡ true) ⌝ }
     ensures { λ r. ⌜ r ≡ case3 (getD w 0 0) (drop 1 (take n w)) ⌝ }
 {
     let a = w[0];
@@ -56,14 +92,13 @@ fn is_case3(w: [u8; 16], n: usize, t: [u8; 18], plain: bool) -> bool
     if t[a as usize] <= 1 {
         return false;
     }
-    let least = least_rotation(w, n);
-    all_single(w, t, 1, least.start - 1)
+    single_before_start(w, n, t, a)
 }
 
-// Case 4 for p, the largest symbol below the first. The rotation is that of the window with p first; a table without p makes the
-// scan refuse p.
+// Case 4 for p, the largest symbol below the first. The rotation is that of the window with p first, which is a rank window too; a table
+// without p makes the scan refuse p.
 fn is_case4(w: [u8; 16], n: usize, t: [u8; 18], p: usize) -> bool
-    requires { ⌜ (1 ≤ n) × (n ≤ 16) × Low (take n w) × (t ≡ tally (take n w)) × (p ≤ 16) ⌝ }
+    requires { ⌜ (1 ≤ n) × (n ≤ 16) × Low (take n w) × (t ≡ tally (take n w)) × (p ≡ largestBelow (take n w) (getD w 0 0)) × (isRank (take n w) ≡ true) ⌝ }
     ensures { λ r. ⌜ r ≡ case4 (getD w 0 0) (drop 1 (take n w)) p ⌝ }
 {
     let a = w[0];
@@ -76,12 +111,9 @@ fn is_case4(w: [u8; 16], n: usize, t: [u8; 18], p: usize) -> bool
     if p == 1 {
         return false;
     }
-    let mut v = w;
-    v[0] = p as u8;
-    let least = least_rotation(v, n);
     let mut without = t;
     without[p] = 0;
-    all_single(w, without, 1, least.start - 1)
+    single_before_start(w, n, without, p as u8)
 }
 
 // The symbol that follows a window in rank form: the first case that applies.

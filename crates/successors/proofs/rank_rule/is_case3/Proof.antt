@@ -1,15 +1,16 @@
 -- `is_case3` is case 3 of rule 1: each return is one of its conditions. Assumes nothing.
-use mathlib.Core.List.{List}
-use mathlib.Core.Path.{_≡_, sym, _∙_}
-use Prim.Native.Nat.{ℕ, _-_, _≤_}
+use mathlib.Core.List.{List, _∷_}
+use mathlib.Core.Path.{_≡_, sym, ap, _∙_}
+use Prim.Native.Nat.{ℕ, _≤_}
 use native.Mathlib.Omega.{arith}
 use borrow.Author.Needs.{needs}
 use lib.ListN.{take, drop, getD}
 use Rattle.weak_orders.specs.Rotation.{start}
-use Rattle.weak_orders.specs.Window.{num}
+use Rattle.weak_orders.specs.Window.{all, num}
+use Rattle.successors.specs.Rules.{single, before}
 use Rattle.successors.proofs.Rule1Cases.{case3-plain, case3-low, case3-once, case3-clear, case3-scan}
 use Rattle.successors.proofs.Tables.{table-num}
-use Rattle.successors.proofs.Windows.{InArray, size, parts, first-in, low-front, start-bounds}
+use Rattle.successors.proofs.Windows.{InArray, parts, first-in}
 use Rattle.successors.proofs.rank_rule.is_case3.Statement.{statement}
 use Rattle.successors.proofs.rank_rule.is_case3.Tie as tie
 
@@ -33,12 +34,6 @@ low s = s .pre .2 (head s) (first-in (array s))
 often : (s : tie.Start) → getD (s .args .t3) (head s) 0 ≡ num (window s) (head s)
 often s = table-num (s .args .t3) (window s) (s .pre .3) (head s) (low s)
 
-bounds : (c : tie.After-least-rotation) →
-    (1 ≤ c .least-rotation .result .start) × (c .least-rotation .result .start ≤ c .before .before .before .before .args .n)
-bounds c =
-    let s = c .before .before .before .before in
-    omega (arith, c .least-rotation .ensures, start-bounds (window s) (omega (arith, size (array s))), size (array s))
-
 array-read-a : tie.Need-array-read-a
 array-read-a c = search needs
 
@@ -57,27 +52,19 @@ array-read-if3 c = omega (arith, low (c .before .before))
 returns-3 : tie.Need-returns-3
 returns-3 c = let s = c .before .before .before in case3-once (window s) (head s) (tail s) (parts (array s)) (omega (arith, often s))
 
-least-rotation-requires : tie.Need-least-rotation-requires
-least-rotation-requires c κs = search needs
-
-sub-all-single : tie.Need-sub-all-single
-sub-all-single c = omega (arith, bounds (c .before))
-
-all-single-requires : tie.Need-all-single-requires
-all-single-requires c κs =
-    let s = c .before .before .before .before .before in
-    let k = c .before .least-rotation .result .start in
-    (omega (arith, bounds (c .before)), low-front (s .args .t1) (k - 1) (s .args .n) (omega (arith, bounds (c .before))) (s .pre .2))
+single-before-start-requires : tie.Need-single-before-start-requires
+single-before-start-requires c κs =
+    let s = c .before .before .before in
+    (s .pre .0, s .pre .1, s .pre .2, omega arith, rw (parts (array s)) at (s .pre .5))
 
 returns-4 : tie.Need-returns-4
 returns-4 c =
-    let s = c .before .before .before .before .before .before in
-    let p = c .before .before in
-    let k = p .least-rotation .result .start in
-    let many = p .before .if3 .left in
-    let not-plain = sym (s .pre .4) ∙ p .before .before .before .if1 .left in
-    c .all-single .ensures
-    ∙ case3-scan (s .args .t1) (s .args .t3) (s .args .n) (s .pre .2) (s .pre .3) k (p .least-rotation .ensures) (omega (arith, bounds p))
+    let three = c .before in
+    let s = three .before .before .before in
+    let not-plain = sym (s .pre .4) ∙ three .before .before .if1 .left in
+    c .single-before-start .ensures
+    ∙ case3-scan (s .args .t1) (s .args .t3) (s .args .n) (s .pre .2) (s .pre .3) (start (head s ∷ tail s))
+    ∙ ap (λ u. all (single (window s)) (before (start u) (window s))) (sym (parts (array s)))
     ∙ case3-clear (window s) (head s) (tail s) (parts (array s)) not-plain (omega arith) (omega (arith, often s))
 
 pub is-case3-spec : {M : Type 1} → statement M
@@ -90,7 +77,5 @@ is-case3-spec =
     cast-if3
     array-read-if3
     returns-3
-    least-rotation-requires
-    sub-all-single
-    all-single-requires
+    single-before-start-requires
     returns-4)

@@ -1,15 +1,20 @@
 -- `is_case4` is case 4 of rule 1: each return is one of its conditions. Assumes nothing.
+use mathlib.Core.Bool.{true}
 use mathlib.Core.List.{List, _∷_}
-use mathlib.Core.Path.{_≡_, sym, ap, _∙_}
-use Prim.Native.Nat.{ℕ, _-_, _≤_}
+use mathlib.Core.Logic.{_≢_}
+use mathlib.Core.Path.{_≡_, sym, _∙_}
+use Prim.Native.Nat.{ℕ, _≤_, _<_}
 use native.Mathlib.Omega.{arith}
 use borrow.Author.Needs.{needs}
-use lib.ListN.{length, take, drop, getD}
+use lib.ListN.{take, drop, getD}
 use Rattle.weak_orders.specs.Rotation.{start}
-use Rattle.weak_orders.specs.Window.{num}
+use Rattle.weak_orders.specs.Window.{num, isRank}
+use Rattle.weak_orders.proofs.RankForm.{says-rank, rank-one}
+use Rattle.weak_orders.proofs.Tests.{here}
 use Rattle.successors.proofs.Rule1Cases.{case4-low, case4-many, case4-one, case4-clear, case4-scan}
-use Rattle.successors.proofs.Tables.{table-num}
-use Rattle.successors.proofs.Windows.{InArray, size, parts, first-in, with-first, low-front, start-bounds}
+use Rattle.successors.proofs.Singles.{under-fall, rank-fall, largest-above}
+use Rattle.successors.proofs.Tables.{table-num, largest-le}
+use Rattle.successors.proofs.Windows.{InArray, parts, first-in}
 use Rattle.successors.proofs.rank_rule.is_case4.Statement.{statement}
 use Rattle.successors.proofs.rank_rule.is_case4.Tie as tie
 
@@ -33,18 +38,21 @@ low s = s .pre .2 (head s) (first-in (array s))
 often : (s : tie.Start) → getD (s .args .t3) (head s) 0 ≡ num (window s) (head s)
 often s = table-num (s .args .t3) (window s) (s .pre .3) (head s) (low s)
 
--- the search goes through the rotations of the window with p first
-starts : (c : tie.After-least-rotation) →
-    let s = c .before .before .before .before in
-    c .least-rotation .result .start ≡ start (s .args .p ∷ tail s)
-starts c = let s = c .before .before .before .before in c .least-rotation .ensures ∙ ap start (with-first (array s) (s .args .p))
+below : (s : tie.Start) → s .args .p ≤ 16
+below s = omega (arith, s .pre .4, largest-le (window s) (head s), low s)
 
-bounds : (c : tie.After-least-rotation) →
-    (1 ≤ c .least-rotation .result .start) × (c .least-rotation .result .start ≤ c .before .before .before .before .args .n)
-bounds c =
-    let s = c .before .before .before .before in
-    let same : length (s .args .p ∷ tail s) ≡ s .args .n = ap length (sym (parts (array s))) ∙ size (array s) in
-    omega (arith, starts c, start-bounds (s .args .p ∷ tail s) (omega arith), same)
+-- with p first it is a rank window too
+fallen : (s : tie.Start) → 1 < head s → num (window s) (head s) ≡ 1 → s .args .p ≢ 1 →
+    (1 < s .args .p) × (isRank (s .args .p ∷ tail s) ≡ true)
+fallen s big once ne =
+    let e = parts (array s) in
+    let x = head s in
+    let b = tail s in
+    let rank = says-rank (x ∷ b) .to (rw e at (s .pre .5)) in
+    let is = rw e at (s .pre .4) in
+    let under = under-fall x b rank big (rw e at once) in
+    let low = largest-above (x ∷ b) x 1 (rank-one (x ∷ b) rank x here) big in
+    (omega (arith, ne), says-rank (s .args .p ∷ b) .of (rw is (rank-fall b _ x under rank)))
 
 array-read-a : tie.Need-array-read-a
 array-read-a c = search needs
@@ -67,38 +75,28 @@ returns-2 c =
 returns-3 : tie.Need-returns-3
 returns-3 c = let s = c .before .before .before in case4-one (window s) (head s) (tail s) (parts (array s)) (s .args .p) (c .if3 .taken)
 
-cast-v : tie.Need-cast-v
-cast-v c = search needs
-
-array-write-v : tie.Need-array-write-v
-array-write-v c = search needs
-
-least-rotation-requires : tie.Need-least-rotation-requires
-least-rotation-requires c κs = search needs
-
 array-write-without : tie.Need-array-write-without
-array-write-without c = search needs
+array-write-without c = omega (arith, below (c .before .before .before))
 
-sub-all-single : tie.Need-sub-all-single
-sub-all-single c = omega (arith, bounds (c .before))
+cast-single-before-start : tie.Need-cast-single-before-start
+cast-single-before-start c = record { fits = omega (arith, below (c .before .before .before)) }
 
-all-single-requires : tie.Need-all-single-requires
-all-single-requires c κs =
-    let s = c .before .before .before .before .before in
-    let k = c .before .least-rotation .result .start in
-    (omega (arith, bounds (c .before)), low-front (s .args .t1) (k - 1) (s .args .n) (omega (arith, bounds (c .before))) (s .pre .2))
+single-before-start-requires : tie.Need-single-before-start-requires
+single-before-start-requires c κs =
+    let two = c .before in
+    let s = two .before .before in
+    let (big, rank) = fallen s (omega arith) (sym (often s) ∙ two .if2 .left) (c .if3 .left) in
+    (s .pre .0, s .pre .1, s .pre .2, big, rank)
 
 returns-4 : tie.Need-returns-4
 returns-4 c =
-    let s = c .before .before .before .before .before .before in
-    let q = c .before .before in
-    let k = q .least-rotation .result .start in
+    let three = c .before in
+    let s = three .before .before .before in
     let p = s .args .p in
-    let ne = q .before .if3 .left in
-    let once = sym (often s) ∙ q .before .before .if2 .left in
-    c .all-single .ensures
-    ∙ case4-scan (s .args .t1) (s .args .t3) (s .args .n) (s .pre .2) (s .pre .3) p k _ (s .pre .4) ne (starts q) (omega (arith, bounds q))
-    ∙ case4-clear (window s) (head s) (tail s) (parts (array s)) p (omega arith) once ne
+    let once = sym (often s) ∙ three .before .if2 .left in
+    c .single-before-start .ensures
+    ∙ case4-scan (s .args .t1) (s .args .t3) (s .args .n) (s .pre .2) (s .pre .3) p (start (p ∷ tail s)) (below s) (three .if3 .left)
+    ∙ case4-clear (window s) (head s) (tail s) (parts (array s)) p (omega arith) once (three .if3 .left)
 
 pub is-case4-spec : {M : Type 1} → statement M
 is-case4-spec =
@@ -110,10 +108,7 @@ is-case4-spec =
     array-read-if2
     returns-2
     returns-3
-    cast-v
-    array-write-v
-    least-rotation-requires
     array-write-without
-    sub-all-single
-    all-single-requires
+    cast-single-before-start
+    single-before-start-requires
     returns-4)

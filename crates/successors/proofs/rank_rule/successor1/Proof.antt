@@ -119,7 +119,7 @@ is-case3-requires : tie.Need-is-case3-requires
 is-case3-requires c κs =
     let p = c .before .before in
     let s = p .before .before in
-    (s .pre .0, s .pre .1, low s, p .before .counts .ensures, is-plain p)
+    (s .pre .0, s .pre .1, low s, p .before .counts .ensures, is-plain p, s .pre .2)
 
 cast-result : tie.Need-cast-result
 cast-result c = search needs
@@ -155,7 +155,7 @@ is-case4-requires : tie.Need-is-case4-requires
 is-case4-requires c κs =
     let p = c .before .before .before .before .before in
     let s = p .before .before in
-    (s .pre .0, s .pre .1, low s, p .before .counts .ensures, largest-low c)
+    (s .pre .0, s .pre .1, low s, p .before .counts .ensures, is-largest c, s .pre .2)
 
 cast-result-2 : tie.Need-cast-result-2
 cast-result-2 c = record { fits = omega (arith, largest-low (c .before .before)) }
