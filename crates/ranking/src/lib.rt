@@ -265,13 +265,11 @@ pub enum Placed {
 pub fn place(w: [u8; 16], n: usize) -> Placed
     ensures { λ r. ⌜ r ≡ placed n (take n w) ⌝ }
 {
-    if !weak_orders::is_length(n) {
-        return Placed::Refused(Cause::WindowLength);
+    let verdict = weak_orders::judge(n, weak_orders::is_height(w, n));
+    match verdict {
+        Verdict::Accepted => Placed::At(place_of(w, n)),
+        Verdict::Refused(cause) => Placed::Refused(cause),
     }
-    if !weak_orders::is_height(w, n) {
-        return Placed::Refused(Cause::NotWeakOrder);
-    }
-    Placed::At(place_of(w, n))
 }
 
 // The height window of n at a place.

@@ -13,7 +13,7 @@ use Rattle.refusals.specs.declared.Cause.the-variants.{RuleNumber}
 use Rattle.refusals.specs.declared.Verdict.{Verdict}
 use Rattle.refusals.specs.declared.Verdict.the-variants.{Accepted, Refused}
 use Rattle.weak_orders.specs.Says.{Says}
-use Rattle.weak_orders.specs.Converted.{judgedIn}
+use Rattle.weak_orders.specs.Converted.{judgedBy, judgedIn}
 use Rattle.weak_orders.specs.Window.{isLength, padded, loaded}
 use Rattle.weak_orders.proofs.FormTests.{says-length}
 use Rattle.weak_orders.proofs.Judged.{refused, loaded-judged, judged-whole, by-loaded}
@@ -57,7 +57,7 @@ module _ (rule n : ℕ) (w : List ℕ) (l : length w ≡ 16) where
 -- the rule's test between the two of a window in a form
 by-form : (rule n : ℕ) (u : List ℕ) →
     judged rule n u ≡ cond (isLength n && not (isRule rule)) (Refused RuleNumber) (judgedIn (inForm rule) n u)
-unfolding judged judgedIn
+unfolding judged judgedIn judgedBy
 by-form rule n u = by-test (isLength n) (λ a. by-test (isRule rule) (λ b. rw (a, b)) (λ b. rw (a, b))) (λ a. rw a)
 
 -- a slice is judged as the definition says, also where it is not n long

@@ -19,13 +19,18 @@ unfoldable pub isHeightWindow : ℕ → List ℕ → Bool
 unfolding isLength isHeight
 isHeightWindow n w = isLength n && isHeight (take n w)
 
--- a window of n in a form: tests 6 and 8, and 8 covers one that is not n long
-unfoldable pub judgedIn : (List ℕ → Bool) → ℕ → List ℕ → Verdict
+-- tests 6 and 8 of a window of n, where `formed` says whether it passes 8
+unfoldable pub judgedBy : ℕ → Bool → Verdict
 unfolding isLength
-judgedIn form n w =
+judgedBy n formed =
     cond (not (isLength n)) (Refused WindowLength) (
-    cond (not (eqb (length w) n && form w)) (Refused NotWeakOrder)
+    cond (not formed) (Refused NotWeakOrder)
     Accepted)
+
+-- a window of n in a form; 8 covers one that is not n long
+unfoldable pub judgedIn : (List ℕ → Bool) → ℕ → List ℕ → Verdict
+unfolding judgedBy
+judgedIn form n w = judgedBy n (eqb (length w) n && form w)
 
 -- accepted, with the window w, zeros behind; or refused, with sixteen zeros
 unfoldable pub answered : Verdict → List ℕ → WindowAnswer

@@ -11,7 +11,7 @@ ghost use lib.ListN.{take, drop};
 ghost use Rattle.weak_orders.specs.Says.{Says};
 ghost use Rattle.weak_orders.specs.Window.{below, height, heights, ranks, isLength, padded, loaded, shifted};
 ghost use Rattle.weak_orders.specs.Tables.{tally, upto, Ranked, bitOf, bitsOf};
-ghost use Rattle.weak_orders.specs.Converted.{isRankWindow, isHeightWindow, answered, rankToHeight, heightToRank};
+ghost use Rattle.weak_orders.specs.Converted.{isRankWindow, isHeightWindow, judgedBy, answered, rankToHeight, heightToRank};
 ghost use Rattle.refusals.specs.declared.Verdict.{Verdict};
 use refusals::Cause;
 use refusals::Verdict;
@@ -213,6 +213,19 @@ fn ranks_of(w: [u8; 16], n: usize) -> [u8; 16]
     v
 }
 
+// Tests 6 and 8 of a window of n, where `formed` says whether it is in the form that is asked for.
+pub fn judge(n: usize, formed: bool) -> Verdict
+    ensures { λ r. ⌜ r ≡ judgedBy n formed ⌝ }
+{
+    if !is_length(n) {
+        return Verdict::Refused(Cause::WindowLength);
+    }
+    if !formed {
+        return Verdict::Refused(Cause::NotWeakOrder);
+    }
+    Verdict::Accepted
+}
+
 // A window for an answer. Refused, it is sixteen zeros.
 pub struct WindowAnswer {
     pub verdict: Verdict,
@@ -234,16 +247,16 @@ impl WindowAnswer {
 pub fn rank_to_height(w: [u8; 16], n: usize) -> WindowAnswer
     ensures { λ r. ⌜ r ≡ rankToHeight n (take n w) ⌝ }
 {
-    if !is_length(n) {
-        return WindowAnswer::refused(Cause::WindowLength);
-    }
-    if !is_rank(w, n) {
-        return WindowAnswer::refused(Cause::NotWeakOrder);
-    }
-    let v = heights_of(w, n);
-    WindowAnswer {
-        verdict: Verdict::Accepted,
-        window: v,
+    let verdict = judge(n, is_rank(w, n));
+    match verdict {
+        Verdict::Accepted => {
+            let v = heights_of(w, n);
+            WindowAnswer {
+                verdict: verdict,
+                window: v,
+            }
+        }
+        Verdict::Refused(cause) => WindowAnswer::refused(cause),
     }
 }
 
@@ -251,15 +264,15 @@ pub fn rank_to_height(w: [u8; 16], n: usize) -> WindowAnswer
 pub fn height_to_rank(w: [u8; 16], n: usize) -> WindowAnswer
     ensures { λ r. ⌜ r ≡ heightToRank n (take n w) ⌝ }
 {
-    if !is_length(n) {
-        return WindowAnswer::refused(Cause::WindowLength);
-    }
-    if !is_height(w, n) {
-        return WindowAnswer::refused(Cause::NotWeakOrder);
-    }
-    let v = ranks_of(w, n);
-    WindowAnswer {
-        verdict: Verdict::Accepted,
-        window: v,
+    let verdict = judge(n, is_height(w, n));
+    match verdict {
+        Verdict::Accepted => {
+            let v = ranks_of(w, n);
+            WindowAnswer {
+                verdict: verdict,
+                window: v,
+            }
+        }
+        Verdict::Refused(cause) => WindowAnswer::refused(cause),
     }
 }

@@ -1,61 +1,60 @@
--- `place`: each test's failure, or the place of a height window. Assumes nothing.
-use mathlib.Core.Bool.{true}
+-- `place`: refused as the window is judged, or the place of a height window. Assumes nothing.
 use mathlib.Core.Path.{_≡_, sym, ap, _∙_}
 use lib.ListN.{length, take}
-use borrow.Author.Tests.{not-true, not-false}
-use Rattle.weak_orders.specs.Converted.{isHeightWindow}
-use Rattle.weak_orders.specs.Window.{isLength, isHeight}
-use Rattle.weak_orders.proofs.Judged.{judged-length, judged-not, judged-yes}
+use borrow.Author.Needs.{needs}
+use Rattle.refusals.specs.declared.Verdict.the-variants.{Accepted}
+use Rattle.weak_orders.specs.Converted.{isHeightWindow, judgedIn}
+use Rattle.weak_orders.specs.Window.{isHeight}
+use Rattle.weak_orders.proofs.Judged.{judged-array, accepted-by}
 use Rattle.ranking.specs.Answers.{placed, placeBy}
 use Rattle.ranking.specs.declared.Placed.the-variants.{At}
-use borrow.Author.Needs.{needs}
 use Rattle.ranking.proofs.place.Statement.{statement}
 use Rattle.ranking.proofs.place.Tie as tie
 
-sixteen : (c : tie.Start) → length (c .args .w) ≡ 16
-sixteen c = search needs
-
--- test 6 passed, and what the form's test then says
-long : (c : tie.Else1) → isLength (c .before .before .args .n) ≡ true
-long c = sym (c .before .is-length .ensures) ∙ not-false _ (c .if1 .left)
-
-form : (c : tie.After-is-height) → let a = c .before .before .before .args in c .is-height .result ≡ isHeight (take (a .n) (a .w))
+-- the verdict on the window
+told : (c : tie.After-judge) → let a = c .before .before .args in c .judge .result ≡ judgedIn isHeight (a .n) (take (a .n) (a .w))
 unfolding isHeightWindow
-form c = rw (long (c .before)) at (c .is-height .ensures)
-
-is-length-requires : tie.Need-is-length-requires
-is-length-requires c κs = search needs
-
-returns : tie.Need-returns
-unfolding placed placeBy
-returns c =
+told c =
     let a = c .before .before .args in
-    let l = c .before .is-length in
-    rw (judged-length isHeight (a .n) (take (a .n) (a .w)) (sym (l .ensures) ∙ not-true (l .result) (c .if1 .taken)))
+    let l : length (a .w) ≡ 16 = search needs in
+    c .judge .ensures ∙ rw (c .before .is-height .ensures) (judged-array isHeight (a .n) (a .w) l)
+
+passed : (c : tie.After-enum-told) → let a = c .before .before .before .before .args in judgedIn isHeight (a .n) (take (a .n) (a .w)) ≡ Accepted
+passed c = sym (told (c .before .before)) ∙ c .enum-told .given .1
 
 is-height-requires : tie.Need-is-height-requires
 is-height-requires c κs = search needs
 
-returns-2 : tie.Need-returns-2
-unfolding placed placeBy
-returns-2 c =
-    let r = c .before in
-    let s = r .before .before .before in
-    let no = sym (form r) ∙ not-true (r .is-height .result) (c .if2 .taken) in
-    rw (judged-not isHeight (s .args .n) (s .args .w) (sixteen s) (long (r .before)) no)
+judge-requires : tie.Need-judge-requires
+judge-requires c κs = search needs
+
+enum-told : tie.Need-enum-told
+enum-told c = search needs
 
 place-of-requires : tie.Need-place-of-requires
-place-of-requires c κs = sym (c .before .is-height .ensures) ∙ not-false _ (c .if2 .left)
-
-returns-3 : tie.Need-returns-3
-unfolding placed placeBy
-returns-3 c =
+place-of-requires c κs =
     let r = c .before .before in
-    let s = r .before .before .before in
-    let yes = sym (form r) ∙ not-false (r .is-height .result) (c .before .if2 .left) in
-    rw (judged-yes isHeight (s .args .n) (s .args .w) (sixteen s) (long (r .before)) yes) (ap At (c .place-of .ensures))
+    sym (r .before .is-height .ensures) ∙ accepted-by _ _ (sym (r .judge .ensures) ∙ c .enum-told .given .1) .1
+
+enum-known-verdict : tie.Need-enum-known-verdict
+enum-known-verdict c = search needs
+
+returns : tie.Need-returns
+unfolding placed placeBy
+returns c = rw (passed (c .before)) (ap At (c .place-of .ensures))
+
+returns-2 : tie.Need-returns-2
+unfolding placed placeBy
+returns-2 c = rw (sym (told (c .before .before .before)) ∙ c .before .verdict .given .1)
 
 pub place-spec : {M : Type 1} → statement M
 place-spec =
     tie.close
-    (tie.spec is-length-requires returns is-height-requires returns-2 place-of-requires returns-3)
+    (tie.spec
+    is-height-requires
+    judge-requires
+    enum-told
+    place-of-requires
+    enum-known-verdict
+    returns
+    returns-2)
