@@ -30,7 +30,17 @@ static int is_single(const uint8_t *counts, int v)
     return v == 1 || counts[v] == 1;
 }
 
-static int rule1(const uint8_t *w, int n)
+/* Behind the first symbol and before any 1 stands p, or one that repeats: then no index up to the least rotation's can do. */
+static int repeat_before_one(const uint8_t *w, int n, const uint8_t *counts, int p)
+{
+    for (int i = 1; i < n && w[i] != 1; i++)
+        if (w[i] == p || counts[w[i]] != 1)
+            return 1;
+    return 0;
+}
+
+/* Algorithm 1; `look` is whether to look for such a repeat before the search, as the proved code does and the paper does not. */
+static inline int rule1(const uint8_t *w, int n, int look)
 {
     uint8_t counts[18] = {0}, q[16];
     int plain = 1, x = w[0];
@@ -43,7 +53,10 @@ static int rule1(const uint8_t *w, int n)
     if (plain && x == 1)
         return counts[1];
     if (x > 1 && counts[x] > 1) {
-        int t = extreme_rotation(w, n, 1);
+        int t;
+        if (look && repeat_before_one(w, n, counts, 0))
+            return x;
+        t = extreme_rotation(w, n, 1);
         for (int i = 1; i < t; i++)
             if (!is_single(counts, w[i]))
                 return x;
@@ -53,7 +66,7 @@ static int rule1(const uint8_t *w, int n)
         int p = x - 1, t;
         while (counts[p] == 0)
             p--;
-        if (p == 1)
+        if (p == 1 || (look && repeat_before_one(w, n, counts, p)))
             return x;
         memcpy(q, w, (size_t)n);
         q[0] = (uint8_t)p;
@@ -108,7 +121,7 @@ static int height_rule(int rule, uint8_t *w, int n)
 
 static int next_symbol(int rule, uint8_t *w, int n)
 {
-    return rule == 1 ? rule1(w, n) : height_rule(rule, w, n);
+    return rule == 1 ? rule1(w, n, 0) : height_rule(rule, w, n);
 }
 
 /* A weak order in rank form (rule 1) or in height form. */
@@ -158,6 +171,17 @@ uint32_t baseline_next_symbol(uint64_t n, uint64_t rule, const uint8_t *window, 
         return 256 + 8;
     memcpy(w, window, n);
     return (uint32_t)next_symbol((int)rule, w, (int)n);
+}
+
+uint32_t baseline_rule1_looking(uint64_t n, uint64_t rule, const uint8_t *window, size_t window_len)
+{
+    if (n < 1 || n > 16)
+        return 256 + 6;
+    if (rule != 1)
+        return 256 + 7;
+    if (window_len != n || !in_form(1, window, (int)n))
+        return 256 + 8;
+    return (uint32_t)rule1(window, (int)n, 1);
 }
 
 /* L(n, k), filled by its recurrence, and a(n), the sum of a row. */

@@ -72,6 +72,26 @@ static void steps(int rule, int n, uint64_t count)
            1e9 * call_ours / (double)count, call_ours / call_c, differ ? "   THE ANSWERS DIFFER" : "");
 }
 
+/* Calls of rule 1 against C that goes the same way, which the paper does not: like for like. */
+static void rule1_alike(int n, uint64_t count)
+{
+    double c = 1e9, ours = 1e9;
+    uint8_t w[16], v[16];
+    unsigned differ = 0;
+    for (int run = 0; run < RUNS; run++) {
+        double t = now();
+        start_window(1, n, w);
+        call_steps(baseline_rule1_looking, 1, n, w, count);
+        t = keep_best(&c, t);
+        start_window(1, n, v);
+        call_steps(wko_next_symbol, 1, n, v, count);
+        keep_best(&ours, t);
+        differ += memcmp(v, w, (size_t)n) != 0;
+    }
+    printf("rule 1  n = %2d   call with its tests: C %6.1f ns, wko_next_symbol %6.1f ns (%.2f of C)%s\n", n, 1e9 * c / (double)count,
+           1e9 * ours / (double)count, ours / c, differ ? "   THE ANSWERS DIFFER" : "");
+}
+
 /* Sends the step frames 1 to count; gives how many were refused. */
 static unsigned send_steps(struct wko_session *s, uint64_t count)
 {
@@ -164,6 +184,9 @@ int main(void)
     for (int rule = 1; rule <= 3; rule++)
         for (int n = 8; n <= 16; n += 4)
             steps(rule, n, 2000000);
+    printf("\nRule 1 again, against C that looks for a repeat before every 1 first, as the proved code does.\n");
+    for (int n = 8; n <= 16; n += 4)
+        rule1_alike(n, 2000000);
     printf("\nA session driven by step frames, rule 1, each frame and its answer.\n");
     frames(8, 500000);
     frames(16, 500000);
