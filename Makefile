@@ -2,18 +2,20 @@
 CC = gcc
 CFLAGS = -std=c11 -O2 -Wall -Wextra -D_DEFAULT_SOURCE
 LIB = target/staticlib/libwko.a
+HEADERS = include/wko.h include/wko_frames.h
 SOURCES := crates.txt $(shell find crates -name '*.rt' -o -name '*.antt')
-TESTS = target/host/test_calls target/host/test_session
+EXAMPLES = target/host/example target/host/link
+TESTS = target/host/test_calls target/host/test_session target/host/stack
 MODELS = target/host/replay_records target/host/sheet_answers
 
-.PHONY: help run test lib host host-test install uninstall dev fmt edits rings graph bench clean
+.PHONY: help run test lib host host-test install uninstall dev fmt edits rings graph tables trust size bench clean
 
 help:
 	@sed -n 's/^## //p' Makefile
 
-## make run [SHEET=file]        prints the round of a sheet: document 01's sample, or the file's
-# A program has no exit status: where round says something on standard error, the run has failed.
-SHEET = crates/round/stdin
+## make run [SHEET=file]        prints the round of a sheet: docs/sample.sheet, or the file
+# A program has no exit status: where round says something on standard error, the sheet is refused or the run has failed.
+SHEET = docs/sample.sheet
 run: target/bin/round
 	@{ said=$$(target/bin/round <$(SHEET) 2>&1 >&3); } 3>&1; status=$$?; \
 	[ -z "$$said" ] || printf '%s\n' "$$said" >&2; \
@@ -23,30 +25,32 @@ target/bin/round: $(SOURCES)
 	@mkdir -p target
 	@echo "building target/bin/round; what it rests on is proved first, some minutes where nothing is yet" >&2
 	@rt check round >target/round.log 2>&1 || { tail -n 20 target/round.log; exit 1; }
+	@touch $@ # it keeps its old time where nothing in it has changed
 
-## make test                    the gate: proves all from nothing, tries the edits that must fail, runs the programs and the host tests
+## make test                    the gate: removes target/, proves all from nothing, tries the edits that must fail, runs the programs and host tests
 test:
 	@.ci/run
 
 ## make lib                     builds libwko.a and says where it and the header are
 lib: $(LIB)
 	@echo "library: $(LIB)"
-	@echo "header:  include/wko.h"
+	@echo "headers: $(HEADERS)"
 
 $(LIB): $(SOURCES)
 	@mkdir -p target
 	@echo "building $(LIB); what it rests on is proved first, some minutes where nothing is yet" >&2
 	@rt staticlib wko >target/staticlib.log 2>&1 || { tail -n 20 target/staticlib.log; exit 1; }
+	@touch $@
 
-## make install [PREFIX=dir]    header, library, wko.pc for pkg-config and the manual page, below /usr/local or the directory; DESTDIR too
+## make install [PREFIX=dir]    headers, library, wko.pc for pkg-config and the manual page, below /usr/local or the directory; DESTDIR too
 PREFIX = /usr/local
-VERSION = 1.0.0
-INSTALLED = include/wko.h lib/libwko.a lib/pkgconfig/wko.pc share/man/man3/wko.3
+VERSION = $(shell sed -n 's/^.define WKO_LIBRARY_VERSION "\(.*\)"/\1/p' include/wko.h)
+INSTALLED = $(HEADERS) lib/libwko.a lib/pkgconfig/wko.pc share/man/man3/wko.3
 to = $(DESTDIR)$(abspath $(PREFIX))/
 
 install: $(LIB)
 	@install -d $(sort $(dir $(addprefix $(to),$(INSTALLED))))
-	@install -m 644 include/wko.h $(to)include
+	@install -m 644 $(HEADERS) $(to)include
 	@install -m 644 $(LIB) $(to)lib
 	@install -m 644 docs/wko.3 $(to)share/man/man3
 	@sed -e 's|@PREFIX@|$(abspath $(PREFIX))|' -e 's|@VERSION@|$(VERSION)|' include/wko.pc.in >$(to)lib/pkgconfig/wko.pc
@@ -56,26 +60,28 @@ install: $(LIB)
 uninstall:
 	@rm -f $(addprefix $(to),$(INSTALLED))
 
-## make host                    builds the README's example of a bench host
-host: target/host/example
-	@echo "bench host: target/host/example"
+## make host                    builds the README's two bench hosts: direct calls, and frames over a link that loses some
+host: $(EXAMPLES)
+	@echo "bench hosts: $(EXAMPLES)"
 
-target/host/example: host/example.c include/wko.h $(LIB)
+$(EXAMPLES) target/host/tables: target/host/%: host/%.c $(HEADERS) $(LIB)
 	@mkdir -p target/host
-	@$(CC) $(CFLAGS) -Iinclude -o $@ host/example.c $(LIB)
+	@$(CC) $(CFLAGS) -Iinclude -o $@ $< $(LIB)
 
 ## make host-test               the host tests alone, on the library as it is built
-host-test: $(TESTS) $(MODELS) target/host/example target/host/print_round target/bin/round
-	@target/host/example | cmp - host/example.out
+host-test: $(TESTS) $(MODELS) $(EXAMPLES) target/host/tables target/host/print_round target/bin/round
+	@for t in $(notdir $(EXAMPLES)); do target/host/$$t | cmp - host/$$t.out || exit 1; done
 	@host/readme.sh
+	@host/headers.sh
 	@host/trace.sh
 	@host/stored.sh
 	@host/rounds.sh
 	@host/install.sh
 	@for t in $(TESTS); do $$t || exit 1; done
 	@host/lost.sh
+	@host/mistakes.sh
 
-target/host/%: host/%.c $(wildcard host/*.h) host/reference.c host/session_model.c include/wko.h $(LIB)
+target/host/%: host/%.c $(wildcard host/*.h) host/reference.c host/session_model.c $(HEADERS) $(LIB)
 	@mkdir -p target/host
 	@$(CC) $(CFLAGS) -o $@ $< host/reference.c host/session_model.c $(LIB)
 
@@ -104,6 +110,21 @@ rings: target/bin/round
 graph:
 	@awk -f docs/picture/graph.awk crates.txt
 
+## make tables                  prints the README's tables of a(n) and of the refusals
+tables: target/host/tables
+	@target/host/tables counts
+	@echo
+	@target/host/tables refusals
+
+## make trust                   counts the lines to believe, the lines of proof and the lines of code, and names the toolchain
+trust:
+	@tools/trust.sh
+
+## make size                    text and data of the library, and the stack that each call takes, measured
+size: target/host/stack
+	@size $(LIB)
+	@target/host/stack
+
 ## make bench                   speed against plain C in the same run; a report, not a test
 bench: target/host/bench target/host/print_round target/bin/round
 	@target/host/bench
@@ -116,7 +137,7 @@ target/host/print_round: bench/print_round.c bench/baseline.c bench/baseline.h
 target/staticlib/libwalk.a: $(LIB)
 	@rt staticlib walk >target/staticlib.log 2>&1 || { tail -n 20 target/staticlib.log; exit 1; }
 
-target/host/bench: bench/bench.c bench/baseline.c bench/baseline.h include/wko.h $(LIB) target/staticlib/libwalk.a
+target/host/bench: bench/bench.c bench/baseline.c bench/baseline.h $(HEADERS) $(LIB) target/staticlib/libwalk.a
 	@mkdir -p target/host
 	@$(CC) -std=c11 -O3 -D_DEFAULT_SOURCE -o $@ bench/bench.c bench/baseline.c $(LIB) target/staticlib/libwalk.a
 

@@ -1,5 +1,5 @@
 /* Speed of the proved code against plain C on the same windows in the same run, as ratios. Not a test: nothing here fails on time. */
-#include "../include/wko.h"
+#include "../include/wko_frames.h"
 #include "baseline.h"
 #include <stdio.h>
 #include <string.h>
@@ -95,12 +95,12 @@ static void rule1_alike(int n, uint64_t count)
 /* Sends the step frames 1 to count; gives how many were refused. */
 static unsigned send_steps(struct wko_session *s, uint64_t count)
 {
-    uint8_t step[40] = "WKO1S", answer[40];
+    uint8_t step[40], answer[40];
     unsigned refused = 0;
+    wko_build_step(step, 0);
     for (uint64_t k = 1; k <= count; k++) {
         struct wko_exchanged x;
-        for (int i = 0; i < 8; i++)
-            step[8 + i] = (uint8_t)(k >> (8 * i));
+        wko_put_number(step + 8, 8, k);
         x = wko_exchange(*s, step, 40, answer, 40);
         refused += x.number != 0;
         *s = x.session;
@@ -111,13 +111,12 @@ static unsigned send_steps(struct wko_session *s, uint64_t count)
 /* Step frames through the session, beside the bare next symbol. */
 static void frames(int n, uint64_t count)
 {
-    uint8_t begin[40] = "WKO1B", answer[40], w[16];
+    const struct wko_setting setting = {0, 100};
+    uint8_t begin[40], answer[40], w[16];
     double by_frame = 1e9, by_call = 1e9;
     unsigned wrong = 0;
-    begin[5] = (uint8_t)n;
-    begin[6] = 1;
-    begin[18] = 100;
-    start_window(1, n, begin + 24);
+    start_window(1, n, w);
+    wko_build_begin(begin, (uint8_t)n, 1, setting, w);
     for (int run = 0; run < RUNS; run++) {
         struct wko_session s = wko_exchange(wko_fresh(), begin, 40, answer, 40).session;
         double t = now();
@@ -168,8 +167,7 @@ static void places(int n, int count)
             wko_place((uint64_t)n, v[k], (size_t)n, bytes[k], 8);
         keep_best(&place_ours, t);
         for (int k = 0; k < count; k++)
-            for (int i = 0; i < 8; i++)
-                differ += bytes[k][i] != (uint8_t)(at[k] >> (8 * i));
+            differ += wko_get_number(bytes[k], 8) != at[k];
         differ += memcmp(by_c, bytes, sizeof bytes) != 0;
         differ += memcmp(v, w, sizeof w) != 0;
     }

@@ -1,5 +1,6 @@
 /* Writes the test of the program `replay`: records to the first file named, and what the independent model answers to the second.
  * The two files are kept in crates/replay as stdin and stdout. */
+#include "../include/wko_frames.h"
 #include "reference.h"
 #include "session_model.h"
 #include <stdio.h>
@@ -24,35 +25,31 @@ static void send(const uint8_t *frame, size_t frame_len, size_t answer_len)
     fwrite(answer, 1, answer_len, answers);
 }
 
-static uint8_t *frame(char kind)
-{
-    static uint8_t f[255];
-    memset(f, 0, sizeof f);
-    memcpy(f, "WKO1", 4);
-    f[4] = (uint8_t)kind;
-    return f;
-}
+/* The frame that is built, with room behind it for one that is too long. */
+static uint8_t frame[255];
 
 static uint8_t *begin(int n, int rule, int top, int spacing, const char *window)
 {
-    uint8_t *f = frame('B');
-    f[5] = (uint8_t)n;
-    f[6] = (uint8_t)rule;
-    f[16] = (uint8_t)(top & 255);
-    f[17] = (uint8_t)(top >> 8 & 255);
-    f[18] = (uint8_t)(spacing & 255);
-    f[19] = (uint8_t)(spacing >> 8);
+    struct wko_setting setting;
+    uint8_t start[255] = {0};
+    setting.top = (int16_t)top;
+    setting.spacing = (uint16_t)spacing;
     for (int i = 0; window[i] != 0; i++)
-        f[24 + i] = (uint8_t)(window[i] - '0');
-    return f;
+        start[i] = (uint8_t)(window[i] - '0');
+    wko_build_begin(frame, (uint8_t)n, (uint8_t)rule, setting, start);
+    return frame;
 }
 
 static uint8_t *step(uint64_t number)
 {
-    uint8_t *f = frame('S');
-    for (int i = 0; i < 8; i++)
-        f[8 + i] = (uint8_t)(number >> (8 * i));
-    return f;
+    wko_build_step(frame, number);
+    return frame;
+}
+
+static uint8_t *query(void)
+{
+    wko_build_query(frame);
+    return frame;
 }
 
 static uint8_t *changed(uint8_t *f, int at, int value)
@@ -70,7 +67,7 @@ static void round_of(int n, int rule, const char *window)
         send(step(k), 40, 40);
         send(step(k), 40, 47);
         if (k == count / 2)
-            send(frame('Q'), 40, 40);
+            send(query(), 40, 40);
     }
     send(step(count + 1), 40, 40);
     send(step(count), 40, 40);
@@ -79,7 +76,7 @@ static void round_of(int n, int rule, const char *window)
 static void refusals(void)
 {
     send(step(1), 40, 40);                                      /* 10: nothing has begun */
-    send(frame('Q'), 40, 40);                                   /* 10 */
+    send(query(), 40, 40);                                      /* 10 */
     send(begin(2, 1, 0, 100, "11"), 40, 39);                    /* 1: nothing changes */
     send(begin(2, 1, 0, 100, "11"), 40, 0);                     /* 1 */
     send(begin(2, 1, 0, 100, "11"), 39, 40);                    /* 2 */
@@ -96,7 +93,7 @@ static void refusals(void)
     send(begin(2, 4, 0, 100, "11"), 40, 40);                    /* 7 */
     send(begin(3, 1, 0, 100, "112"), 40, 40);                   /* 8: no rank form */
     send(begin(3, 2, 0, 100, "111"), 40, 40);                   /* 8: no height form */
-    send(begin(2, 1, 0, 100, "111"), 40, 40);                   /* 8: an unused byte */
+    send(changed(begin(2, 1, 0, 100, "11"), 26, 1), 40, 40);    /* 8: an unused byte */
     send(begin(2, 1, -10001, 100, "11"), 40, 40);               /* 9 */
     send(begin(2, 1, 2001, 100, "11"), 40, 40);                 /* 9 */
     send(begin(2, 1, 0, 0, "11"), 40, 40);                      /* 9 */
@@ -107,11 +104,11 @@ static void refusals(void)
     send(step(2), 40, 40);                                      /* 11 */
     send(changed(step(1), 5, 1), 40, 40);                       /* 5 */
     send(changed(step(1), 39, 1), 40, 40);                      /* 5 */
-    send(changed(frame('Q'), 8, 1), 40, 40);                    /* 5 */
+    send(changed(query(), 8, 1), 40, 40);                       /* 5 */
     send(step(1), 40, 39);                                      /* 1: not stepped */
     send(step(1), 40, 40);                                      /* stepped once */
     send(step(UINT64_MAX), 40, 40);                             /* 11 */
-    send(frame('Q'), 40, 64);
+    send(query(), 40, 64);
 }
 
 int main(int argc, char **argv)

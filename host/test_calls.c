@@ -1,5 +1,5 @@
 /* The direct calls against an independent implementation: done and refused, with every byte around the buffers watched. */
-#include "../include/wko.h"
+#include "../include/wko_frames.h"
 #include "reference.h"
 #include "testing.h"
 
@@ -165,12 +165,31 @@ static void check_place(uint64_t n, const uint8_t *w, size_t len, size_t out_len
     uint32_t got = wko_place(n, lend(w, len), len, out, out_len);
     size_t written = want == 0 ? 8 : 0;
     CHECK(got == want, "place, n = %llu, length %zu: %u, not %u", (unsigned long long)n, len, got, want);
-    if (want == 0) {
-        uint64_t place = ref_place(w, (int)n);
-        for (int i = 0; i < 8; i++)
-            CHECK(out[i] == (uint8_t)(place >> (8 * i)), "byte %d of a place of n = %llu", i, (unsigned long long)n);
-    }
+    if (want == 0)
+        CHECK(wko_get_number(out, 8) == ref_place(w, (int)n), "another place of n = %llu", (unsigned long long)n);
     CHECK(untouched(out_page, out, written, out_len), "place wrote beside its %zu bytes", written);
+}
+
+static void check_count(uint64_t n, size_t out_len)
+{
+    uint8_t *out = lend_out(out_len);
+    uint32_t want = n < 1 || n > 16 ? 256 + 6 : out_len < 8 ? 256 + 1 : 0;
+    uint32_t got = wko_count(n, out, out_len);
+    CHECK(got == want, "count, n = %llu, %zu bytes: %u, not %u", (unsigned long long)n, out_len, got, want);
+    if (want == 0)
+        CHECK(wko_get_number(out, 8) == ref_count((int)n), "another count of n = %llu", (unsigned long long)n);
+    CHECK(untouched(out_page, out, want == 0 ? 8 : 0, out_len), "count wrote beside its bytes");
+}
+
+/* Every n that is counted, and others, into buffers of each length. */
+static void counts(void)
+{
+    for (size_t out_len = 0; out_len <= 18; out_len++) {
+        for (uint64_t n = 1; n <= 16; n++)
+            check_count(n, out_len);
+        for (size_t k = 0; k < sizeof lengths / sizeof *lengths; k++)
+            check_count(lengths[k], out_len);
+    }
 }
 
 static void check_window_at(uint64_t n, uint64_t place, size_t out_len)
@@ -240,11 +259,24 @@ static void worked_example(void)
         CHECK(wko_window_at(3, k, out, 8) == 0 && memcmp(out, windows_of_3[k], 3) == 0, "window %d of n = 3", (int)k);
 }
 
+/* What the header itself defines. */
+static void conveniences(void)
+{
+    CHECK(WKO_REFUSED(0) == 0 && WKO_REFUSED(16) == 0, "a symbol or 0 is no refusal");
+    CHECK(WKO_REFUSED(wko_count(17, NULL, 0)) == WKO_WINDOW_LENGTH, "a refusal of a direct call has its number");
+    for (uint32_t i = 0; i <= 15; i++)
+        for (uint32_t j = 0; j < i; j++)
+            CHECK(strcmp(wko_refusal_text(i), wko_refusal_text(j)) != 0, "refusals %u and %u have the same text", i, j);
+    CHECK(wko_refusal_text(15) == wko_refusal_text(UINT32_MAX), "there are 14 refusals");
+}
+
 int main(void)
 {
     in_page = guarded_page();
     out_page = guarded_page();
     worked_example();
+    conveniences();
+    counts();
     for (int n = 1; n <= 5; n++)
         all_strings(n);
     refusals_of_conversions();

@@ -1,5 +1,5 @@
 /* Random frame histories through wko_exchange against an independent model: replies, sessions and every byte of the buffer. */
-#include "../include/wko.h"
+#include "../include/wko_frames.h"
 #include "reference.h"
 #include "session_model.h"
 #include "testing.h"
@@ -11,6 +11,20 @@ static int same_session(const struct wko_session *a, const struct wko_session *b
 {
     return a->begun == b->begun && a->n == b->n && a->rule == b->rule && a->setting.top == b->setting.top
            && a->setting.spacing == b->setting.spacing && a->done == b->done && memcmp(a->window, b->window, 16) == 0;
+}
+
+/* What wko_read_answer reads, against the model after the frame; `stepped` where the frame was a step. */
+static void check_read(const uint8_t *answer, const struct wko_session *model, int refusal, int stepped)
+{
+    struct wko_answer read;
+    int symbol = refusal == 0 && stepped ? model->window[model->n - 1] : 0;
+    long level = refusal == 0 && stepped ? ref_level(model->rule, model->setting.top, model->setting.spacing, symbol) : 0;
+    CHECK(wko_read_answer(&read, answer, 40) == 1 && read.refusal == refusal, "an answer reads as refusal %d", refusal);
+    CHECK(read.symbol == symbol && read.level == level, "symbol %d and level %d", read.symbol, (int)read.level);
+    CHECK(read.done == (refusal == 0 ? model->done : 0), "steps done in an answer, refusal %d", refusal);
+    CHECK((read.different == 0) == (refusal != 0), "different symbols in an answer, refusal %d", refusal);
+    if (refusal == 0)
+        CHECK(memcmp(read.window, model->window, 16) == 0, "the window in an answer");
 }
 
 /* One frame through both, from the same session; the library's answer buffer ends at a page that may not be touched. */
@@ -30,13 +44,9 @@ static void check_frame(struct wko_session *s, const uint8_t *frame, size_t fram
     CHECK(same_session(&got.session, &model), "another session after kind %d, refusal %d", frame_len > 4 ? frame[4] : -1, want);
     CHECK(memcmp(answer, expected, answer_len) == 0, "another answer, refusal %d", want);
     CHECK(untouched(answer_page, answer, answer_len, answer_len), "wrote in front of the answer buffer");
+    if (answer_len >= 40)
+        check_read(answer, &model, want, frame_len > 4 && frame[4] == 'S');
     *s = got.session;
-}
-
-static void put(uint8_t *p, uint64_t x, int bytes)
-{
-    for (int i = 0; i < bytes; i++)
-        p[i] = (uint8_t)(x >> (8 * i));
 }
 
 static void random_window(int rule, int n, uint8_t *w)
@@ -56,20 +66,14 @@ static const uint16_t spacings[] = {0, 1, 2, 100, 133, 134, 499, 500, 501, 65535
 static void begin_frame(uint8_t *f, int small)
 {
     int n = 1 + (int)random_below(small ? 3 : 16), rule = 1 + (int)random_below(3);
-    memset(f, 0, 40);
-    memcpy(f, "WKO1B", 5);
-    f[5] = (uint8_t)n;
-    f[6] = (uint8_t)rule;
-    put(f + 16, (uint16_t)(random_below(4) ? -1000 : tops[random_below(10)]), 2);
-    put(f + 18, random_below(4) ? 100 : spacings[random_below(10)], 2);
-    random_window(rule, n, f + 24);
-}
-
-static void step_frame(uint8_t *f, uint64_t number)
-{
-    memset(f, 0, 40);
-    memcpy(f, "WKO1S", 5);
-    put(f + 8, number, 8);
+    struct wko_setting setting = {-1000, 100};
+    uint8_t window[16];
+    if (random_below(4) == 0)
+        setting.top = tops[random_below(10)];
+    if (random_below(4) == 0)
+        setting.spacing = spacings[random_below(10)];
+    random_window(rule, n, window);
+    wko_build_begin(f, (uint8_t)n, (uint8_t)rule, setting, window);
 }
 
 /* A frame that fits the session more often than not, sometimes with a byte changed, sometimes of another length. */
@@ -80,14 +84,13 @@ static size_t random_frame(uint8_t *f, const struct wko_session *s, int small)
     if (kind == 0) {
         begin_frame(f, small);
     } else if (kind == 1) {
-        memset(f, 0, 40);
-        memcpy(f, "WKO1Q", 5);
+        wko_build_query(f);
     } else if (kind < 12) {
-        step_frame(f, s->done + 1);
+        wko_build_step(f, s->done + 1);
     } else if (kind < 14) {
-        step_frame(f, s->done);
+        wko_build_step(f, s->done);
     } else {
-        step_frame(f, random_below(2) ? random_below(20) : random64());
+        wko_build_step(f, random_below(2) ? random_below(20) : random64());
     }
     if (random_below(8) == 0)
         f[random_below(40)] = (uint8_t)random64();
@@ -107,7 +110,7 @@ static struct wko_session random_session(void)
     if (random_below(4))
         random_window(s.rule, s.n >= 1 && s.n <= 16 ? (int)s.n : 16, s.window);
     else
-        put(s.window + random_below(8), random64(), 8);
+        wko_put_number(s.window + random_below(8), 8, random64());
     s.done = random_below(4) ? random_below(100) : random64() >> random_below(64);
     if (random_below(4) == 0 && s.n >= 1 && s.n <= 16)
         s.done = ref_count((int)s.n) + random_below(3) - 1;
@@ -130,11 +133,12 @@ static void history(int small)
 /* A session as a device may have kept it, with every value of its first byte: 1 has begun, the others have not and stay as they are. */
 static void check_begun_bytes(void)
 {
-    uint8_t begin[40], query[40] = "WKO1Q", step[40];
-    begin_frame(begin, 1);
-    put(begin + 16, (uint16_t)-1000, 2);
-    put(begin + 18, 100, 2);
-    step_frame(step, 1);
+    const struct wko_setting setting = {-1000, 100};
+    const uint8_t start[3] = {2, 0, 1};
+    uint8_t begin[40], query[40], step[40];
+    wko_build_begin(begin, 3, 2, setting, start);
+    wko_build_query(query);
+    wko_build_step(step, 1);
     for (int byte = 0; byte < 256; byte++) {
         struct wko_session s = wko_exchange(wko_fresh(), begin, 40, answer_page, 40).session;
         CHECK(s.begun == 1, "an accepted begin frame leaves %d", s.begun);
@@ -146,12 +150,35 @@ static void check_begun_bytes(void)
     }
 }
 
+/* The bytes of each kind of frame, and an answer, written out. */
+static void check_bytes(void)
+{
+    static const uint8_t begin[40] = {'W', 'K', 'O', '1', 'B', 3, 2, 0, 0, 0, 0, 0, 0, 0, 0, 0, 24, 252, 44, 1, 0, 0, 0, 0, 2, 0, 1};
+    static const uint8_t step[40] = {'W', 'K', 'O', '1', 'S', 0, 0, 0, 8, 7, 6, 5, 4, 3, 2, 1};
+    static const uint8_t query[40] = {'W', 'K', 'O', '1', 'Q'};
+    static const uint8_t answer[40] = {'W', 'K', 'A', '1', 0, 2, 3, 0, 8, 7, 6, 5, 4, 3, 2, 1, 192, 249, 255, 255, 0, 0, 0, 0, 1, 0, 2};
+    const struct wko_setting setting = {-1000, 300};
+    const uint8_t start[3] = {2, 0, 1}, window[16] = {1, 0, 2};
+    struct wko_answer read;
+    uint8_t f[40];
+    wko_build_begin(f, 3, 2, setting, start);
+    CHECK(memcmp(f, begin, 40) == 0, "the bytes of a begin frame");
+    wko_build_step(f, 0x0102030405060708u);
+    CHECK(memcmp(f, step, 40) == 0, "the bytes of a step frame");
+    wko_build_query(f);
+    CHECK(memcmp(f, query, 40) == 0, "the bytes of a query frame");
+    CHECK(wko_read_answer(&read, answer, 40) == 1 && read.refusal == 0 && read.symbol == 2 && read.different == 3, "an answer is read");
+    CHECK(read.done == 0x0102030405060708u && read.level == -1600 && memcmp(read.window, window, 16) == 0, "numbers and window of an answer");
+    CHECK(wko_read_answer(&read, answer, 39) == 0 && wko_read_answer(&read, query, 40) == 0, "what is no answer is not read");
+}
+
 int main(void)
 {
     struct wko_session fresh = wko_fresh();
     frame_page = guarded_page();
     answer_page = guarded_page();
     CHECK(!fresh.begun && fresh.done == 0 && !model_has_begun(&fresh), "a fresh session has not begun");
+    check_bytes();
     check_begun_bytes();
     for (long k = 0; k < 50000; k++) {
         history(1);

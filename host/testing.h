@@ -22,7 +22,7 @@ static long checks, failures;
         }                                                    \
     } while (0)
 
-static int report(const char *name)
+static inline int report(const char *name)
 {
     printf("%s: %ld checks, %ld of them failed\n", name, checks, failures);
     return failures != 0;
@@ -31,7 +31,7 @@ static int report(const char *name)
 /* xorshift64*: the same numbers in every run. */
 static uint64_t random_state = 0x9E3779B97F4A7C15u;
 
-static uint64_t random64(void)
+static inline uint64_t random64(void)
 {
     random_state ^= random_state >> 12;
     random_state ^= random_state << 25;
@@ -39,13 +39,13 @@ static uint64_t random64(void)
     return random_state * 0x2545F4914F6CDD1Du;
 }
 
-static uint64_t random_below(uint64_t n)
+static inline uint64_t random_below(uint64_t n)
 {
     return random64() % n;
 }
 
 /* A page that can be used with one behind it that cannot: `at_end(p, len)` is where a buffer of len bytes ends at the border. */
-static uint8_t *guarded_page(void)
+static inline uint8_t *guarded_page(void)
 {
     size_t page = (size_t)sysconf(_SC_PAGESIZE);
     uint8_t *p = mmap(NULL, 2 * page, PROT_READ | PROT_WRITE, MAP_PRIVATE | MAP_ANONYMOUS, -1, 0);
@@ -56,13 +56,13 @@ static uint8_t *guarded_page(void)
     return p;
 }
 
-static uint8_t *at_end(uint8_t *page, size_t len)
+static inline uint8_t *at_end(uint8_t *page, size_t len)
 {
     return page + (size_t)sysconf(_SC_PAGESIZE) - len;
 }
 
 /* Every byte of the page before p and of the buffer from `from` to len is still FILL. */
-static int untouched(const uint8_t *page, const uint8_t *p, size_t from, size_t len)
+static inline int untouched(const uint8_t *page, const uint8_t *p, size_t from, size_t len)
 {
     for (const uint8_t *q = page; q < p; q++)
         if (*q != FILL)

@@ -9,15 +9,7 @@
  * A window is n symbols, one per byte, oldest first, n from 1 to 16. A weak order of n is a window in
  *   rank form:   each symbol is 1 plus the number of places that hold a smaller one (1,2,2 and 1,1,3, but not 1,1,2), or
  *   height form: the symbols present are exactly 0 to some h (0,1,1 and 2,0,1, but not 0,2,2).
- *
- * A call returns 0 when it is done (wko_next_symbol: the symbol), or 256 + the number of a refusal:
- *   257 (1)   the buffer is too short
- *   262 (6)   n is not 1 to 16
- *   263 (7)   the rule is not 1, 2 or 3
- *   264 (8)   the window is not n long, or no weak order of n in the form that the call takes
- *   269 (13)  the place is not below a(n), the number of weak orders of n
- * The tests are made in the order 6, 7, 1, then 8 or 13, without those that have no meaning in a call, and the first that fails decides.
- * A refused call writes no byte.
+ * There are a(n) weak orders of n, in either form.
  */
 #ifndef WKO_H
 #define WKO_H
@@ -25,9 +17,73 @@
 #include <stddef.h>
 #include <stdint.h>
 
+#define WKO_LIBRARY_VERSION "1.1.0"
+#define WKO_MAX_N 16     /* symbols of the longest window */
+#define WKO_FRAME_LEN 40 /* bytes of a frame, and of its answer */
+
+/* Why a call, a frame or a sheet is refused; wko_refusal_text has each in words. */
+enum wko_refusal {
+    WKO_SHORT_BUFFER = 1,
+    WKO_FRAME_LENGTH = 2,
+    WKO_FRAME_HEADER = 3,
+    WKO_FRAME_KIND = 4,
+    WKO_RESERVED_BYTE = 5,
+    WKO_WINDOW_LENGTH = 6,
+    WKO_RULE_NUMBER = 7,
+    WKO_NOT_WEAK_ORDER = 8,
+    WKO_LEVEL_SETTING = 9,
+    WKO_NOT_BEGUN = 10,
+    WKO_STEP_NUMBER = 11,
+    WKO_ROUND_FINISHED = 12,
+    WKO_NO_SUCH_PLACE = 13,
+    WKO_SHEET_MALFORMED = 14
+};
+
+/* A refusal in words; 0 is none. */
+static inline const char *wko_refusal_text(uint32_t number)
+{
+    static const char *const texts[] = {
+        "not refused",
+        "the buffer is too short",
+        "the frame is not 40 bytes long",
+        "the frame does not start with WKO1",
+        "the kind of the frame is not B, S or Q",
+        "a byte of the frame that must be zero is not",
+        "n is out of range",
+        "the rule is not 1, 2 or 3",
+        "the window is no weak order of n in the form that is asked for",
+        "the level setting is out of range",
+        "no round has begun",
+        "the step number is neither the next one nor the last one again",
+        "the round is finished",
+        "the place is not below a(n)",
+        "the sheet is malformed",
+    };
+    return number < sizeof texts / sizeof texts[0] ? texts[number] : "no refusal has this number";
+}
+
+/* What a direct call returns, 256 + number for a refusal, as the bare number of the refusal, or 0 where it is done.
+ * For direct calls only: wko_exchange and answers have the bare number. */
+static inline uint32_t wko_refusal_of(uint32_t returned)
+{
+    return returned < 256 ? 0 : returned - 256;
+}
+#define WKO_REFUSED(returned) wko_refusal_of(returned)
+
 #ifdef __cplusplus
 extern "C" {
 #endif
+
+/*
+ * Direct calls. Each returns 0 when it is done (wko_next_symbol: the symbol), or 256 + the number of a refusal:
+ *   257 (1)   the buffer is too short
+ *   262 (6)   n is not 1 to 16
+ *   263 (7)   the rule is not 1, 2 or 3
+ *   264 (8)   the window is not n long, or no weak order of n in the form that the call takes
+ *   269 (13)  the place is not below a(n)
+ * The tests are made in the order 6, 7, 1, then 8 or 13, without those that have no meaning in a call, and the first that fails decides.
+ * A refused call writes no byte.
+ */
 
 /* The symbol that follows the window under a rule: one step drops the oldest symbol and appends this one.
  * Rule 1 takes a window in rank form, rules 2 and 3 take one in height form. A round of a(n) such steps meets each weak order of n
@@ -41,6 +97,10 @@ uint32_t wko_rank_to_height(uint64_t n, const uint8_t *window, size_t window_len
 /* From height form to rank form. Takes a window in height form; otherwise as above. Refusals 6, 1, 8. */
 uint32_t wko_height_to_rank(uint64_t n, const uint8_t *window, size_t window_len, uint8_t *out, size_t out_len);
 
+/* a(n), the number of weak orders of n: the steps of a round, and the number of places.
+ * Writes 8 bytes, little-endian, to the front of out, which has out_len >= 8. Refusals 6, 1. */
+uint32_t wko_count(uint64_t n, uint8_t *out, size_t out_len);
+
 /* The place of a window in height form: how many windows of n in height form stand before it in dictionary order, 0 to a(n) - 1.
  * Writes 8 bytes, little-endian, to the front of out, which has out_len >= 8. Refusals 6, 1, 8. */
 uint32_t wko_place(uint64_t n, const uint8_t *window, size_t window_len, uint8_t *out, size_t out_len);
@@ -49,15 +109,21 @@ uint32_t wko_place(uint64_t n, const uint8_t *window, size_t window_len, uint8_t
 uint32_t wko_window_at(uint64_t n, uint64_t place, uint8_t *out, size_t out_len);
 
 /*
- * For firmware: a session driven by frames of 40 bytes.
+ * For firmware: a session driven by frames of 40 bytes. wko_frames.h builds frames and reads answers.
  *
  * A session goes in by value and comes back by value; the caller keeps it where it likes. Any values of the fields may be handed in:
  * a session whose n, rule, window or level setting a begin frame would be refused for, or with more than a(n) steps done, counts as
- * not begun. Sessions are changed by frames alone; the fields are there to be kept and looked at.
+ * not begun. Sessions are changed by frames alone; the fields are there to be kept and looked at. Keep them field by field: the bytes
+ * between the fields are not defined. Keep a checksum beside them, since a session with a flipped bit can be another good session.
+ * Keep the session before the answer is sent: a device that answers first and then loses power comes back one step behind its host.
+ *
+ * The level of a symbol is top - (symbol - 1) * spacing under rule 1, and top - symbol * spacing under rules 2 and 3: the smallest symbol
+ * has the highest level. A setting is refused (9) unless top is -10000 to 2000, spacing is 1 to 500 and the lowest level that n symbols
+ * can come to, top - (n - 1) * spacing, is at least -12000.
  */
 struct wko_setting {
-    int16_t top;      /* level of the lowest symbol, in hundredths of a dBm: -10000 to 2000 */
-    uint16_t spacing; /* from one symbol to the next: 1 to 500 */
+    int16_t top;      /* the level of the smallest symbol, in hundredths of a dBm */
+    uint16_t spacing; /* how much lower the level of the next symbol is, in hundredths of a dB */
 };
 
 struct wko_session {
@@ -65,8 +131,8 @@ struct wko_session {
     size_t n;
     uint8_t rule;
     struct wko_setting setting;
-    uint8_t window[16]; /* the window after the last step, zeros behind its n symbols */
-    uint64_t done;      /* steps done since the begin frame */
+    uint8_t window[WKO_MAX_N]; /* the window after the last step, zeros behind its n symbols */
+    uint64_t done;             /* steps done since the begin frame */
 };
 
 struct wko_exchanged {
@@ -79,18 +145,45 @@ struct wko_session wko_fresh(void);
 
 /*
  * Handles one frame of any length and writes its answer to the first 40 bytes of the buffer; bytes past 40 are never touched.
- * A frame is 40 bytes, little-endian: 0-3 WKO1; 4 the kind, B (begin), S (step) or Q (query); 5 n; 6 rule; 7 zero; 8-15 step number;
- * 16-17 top, signed; 18-19 spacing; 20-23 zero; 24-39 start window, unused bytes zero. S leaves 5-7 and 16-39 zero, B 8-15, Q 5-39.
- * An answer is 0-3 WKA1; 4 zero or the refusal; 5 symbol (S); 6 the number of different symbols; 7 zero; 8-15 steps done; 16-19 level,
- * signed (S); 20-23 zero; 24-39 the window after the frame.
+ * Numbers are little-endian. Where a column has 0, the bytes must be zero (refusal 5; in a start window 8) and are zero in an answer.
+ *
+ *   bytes   begin            step          query   answer
+ *   0-3     WKO1             WKO1          WKO1    WKA1
+ *   4       B                S             Q       0
+ *   5       n                0             0       symbol (step), else 0
+ *   6       rule             0             0       number of different symbols in the window
+ *   7       0                0             0       0
+ *   8-15    0                step number   0       steps done
+ *   16-17   top, signed      0             0       16-19: level, signed (step), else 0
+ *   18-19   spacing          0             0
+ *   20-23   0                0             0       0
+ *   24-39   start, 0 behind  0             0       window after the frame, 0 behind
+ *
+ * The answer to a refused frame is WKA1, the number of the refusal and 35 zeros, and the session stays as it was.
  * A step frame numbered done + 1 steps; one numbered done, at least 1, is a resend: it changes nothing and gets the same answer.
  * Refused, in this order: 1 buffer under 40 bytes (nothing is written); 2 frame not 40 bytes; 3 not WKO1; 4 kind unknown; 5 a byte
- * that must be zero is not; then B: 6 n, 7 rule, 8 window, 9 level setting; S and Q: 10 not begun; S: 11 number, 12 round finished.
+ * that must be zero is not; then begin: 6 n, 7 rule, 8 window, 9 level setting; step and query: 10 not begun; step: 11 number,
+ * 12 round finished.
  */
 struct wko_exchanged wko_exchange(struct wko_session session, const uint8_t *frame, size_t frame_len, uint8_t *answer, size_t answer_len);
 
 #ifdef __cplusplus
 }
 #endif
+
+/* The layout that libwko.a was built for: x86-64 Linux, System V ABI. Another one does not compile. */
+#if defined __cplusplus && __cplusplus >= 201103L
+#define WKO_LAYOUT(holds) static_assert(holds, "wko.h: the structs are not laid out as in libwko.a")
+#elif defined __STDC_VERSION__ && __STDC_VERSION__ >= 201112L
+#define WKO_LAYOUT(holds) _Static_assert(holds, "wko.h: the structs are not laid out as in libwko.a")
+#else
+#define WKO_LAYOUT(holds) extern const char wko_layout[(holds) ? 1 : -1]
+#endif
+WKO_LAYOUT(sizeof(struct wko_setting) == 4 && offsetof(struct wko_setting, top) == 0 && offsetof(struct wko_setting, spacing) == 2);
+WKO_LAYOUT(sizeof(struct wko_session) == 48 && offsetof(struct wko_session, begun) == 0 && offsetof(struct wko_session, n) == 8);
+WKO_LAYOUT(offsetof(struct wko_session, rule) == 16 && offsetof(struct wko_session, setting) == 18);
+WKO_LAYOUT(offsetof(struct wko_session, window) == 22 && offsetof(struct wko_session, done) == 40);
+WKO_LAYOUT(sizeof(struct wko_exchanged) == 56 && offsetof(struct wko_exchanged, session) == 0 && offsetof(struct wko_exchanged, number) == 48);
+#undef WKO_LAYOUT
 
 #endif

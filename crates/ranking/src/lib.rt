@@ -8,7 +8,7 @@ ghost use lib.Dec.{leb};
 ghost use lib.ListN.{getD, take};
 ghost use Rattle.weak_orders.specs.Converted.{isHeightWindow};
 ghost use Rattle.weak_orders.specs.Window.{padded, bound};
-ghost use Rattle.ranking.specs.Answers.{placed, located};
+ghost use Rattle.ranking.specs.Answers.{counted, placed, located};
 ghost use Rattle.ranking.specs.Counts.{L, a, sum, ways, waysFrom, Found};
 ghost use Rattle.ranking.specs.Dictionary.{completionsWith, place, windowAt};
 ghost use Rattle.ranking.specs.Tables.{Entries};
@@ -255,20 +255,30 @@ fn window_of(n: usize, place: u64) -> [u8; 16]
     window
 }
 
-// The place of a window, or why it has none.
-pub enum Placed {
-    At(u64),
+// A number for an answer, or why there is none.
+pub enum NumberAnswer {
+    Number(u64),
     Refused(Cause),
 }
 
+// How many weak orders of n there are.
+pub fn count(n: usize) -> NumberAnswer
+    ensures { λ r. ⌜ r ≡ counted n ⌝ }
+{
+    if !weak_orders::is_length(n) {
+        return NumberAnswer::Refused(Cause::WindowLength);
+    }
+    NumberAnswer::Number(weak_order_count(n))
+}
+
 // The place of the first n symbols of w in dictionary order, where they are a height window.
-pub fn place(w: [u8; 16], n: usize) -> Placed
+pub fn place(w: [u8; 16], n: usize) -> NumberAnswer
     ensures { λ r. ⌜ r ≡ placed n (take n w) ⌝ }
 {
     let verdict = weak_orders::judge(n, weak_orders::is_height(w, n));
     match verdict {
-        Verdict::Accepted => Placed::At(place_of(w, n)),
-        Verdict::Refused(cause) => Placed::Refused(cause),
+        Verdict::Accepted => NumberAnswer::Number(place_of(w, n)),
+        Verdict::Refused(cause) => NumberAnswer::Refused(cause),
     }
 }
 

@@ -18,7 +18,7 @@ use Rattle.weak_orders.specs.Window.{isLength, isRank, isHeight, heights, ranks
 use Rattle.weak_orders.proofs.FormTests.{says-length, rank-low, height-low}
 use Rattle.weak_orders.proofs.Judged.{refused, loaded-judged, judged-whole, by-loaded}
 use Rattle.weak_orders.proofs.Tests.{by-test, says?, says-no}
-use Rattle.ranking.specs.Answers.{placed, placeBy, judgedPlace, located}
+use Rattle.ranking.specs.Answers.{placed, numberBy, judgedPlace, located}
 use Rattle.ranking.specs.Dictionary.{place, windowAt}
 use Rattle.ranking.proofs.Answered.{place-length}
 use Rattle.successors.specs.declared.Next.the-variants.{Refused as NoSymbol}
@@ -90,8 +90,8 @@ unfolding heightToRank answered
 height-slice n s = by-loaded (judgedIn isHeight n) (λ v u. answered v (ranks u)) n s (height-judged n s) (judged-whole isHeight n s) (λ c u v. refl)
 
 pub place-slice : (n : ℕ) (s : List ℕ) → placed n (take n (loaded n s)) ≡ placed n s
-unfolding placed placeBy
-place-slice n s = by-loaded (judgedIn isHeight n) (λ v u. placeBy v (place u)) n s (height-judged n s) (judged-whole isHeight n s) (λ c u v. refl)
+unfolding placed numberBy
+place-slice n s = by-loaded (judgedIn isHeight n) (λ v u. numberBy v (place u)) n s (height-judged n s) (judged-whole isHeight n s) (λ c u v. refl)
 
 -- a rule that does not fit a byte is no rule, and neither is 0
 pub symbol-slice : (n rule : ℕ) (s : List ℕ) → nextSymbol (cond (ltb rule 256) rule 0) n (take n (loaded n s)) ≡ nextSymbol rule n s

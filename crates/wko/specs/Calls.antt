@@ -11,12 +11,12 @@ use Rattle.refusals.specs.declared.Verdict.{Verdict}
 use Rattle.refusals.specs.declared.Verdict.the-variants.{Accepted, Refused}
 use Rattle.weak_orders.specs.declared.WindowAnswer.{WindowAnswer}
 use Rattle.weak_orders.specs.Converted.{rankToHeight, heightToRank}
-use Rattle.ranking.specs.declared.Placed.{Placed}
-use Rattle.ranking.specs.declared.Placed.the-variants.{At, Refused as Unplaced}
-use Rattle.ranking.specs.Answers.{placed, located}
+use Rattle.ranking.specs.declared.NumberAnswer.{NumberAnswer}
+use Rattle.ranking.specs.declared.NumberAnswer.the-variants.{Number, Refused as NoNumber}
+use Rattle.ranking.specs.Answers.{counted, placed, located}
 use Rattle.successors.specs.NextSymbol.{nextSymbol, nextNumber}
 use Rattle.frames.specs.Fields.{bytes64}
-use Rattle.wko.specs.declared.PlaceBytes.{PlaceBytes}
+use Rattle.wko.specs.declared.NumberBytes.{NumberBytes}
 
 -- the number returned, and the whole buffer
 abbrev pub Outcome : Type 0
@@ -50,16 +50,16 @@ unfoldable pub windowGiven : ℕ → WindowAnswer → List ℕ → Outcome
 unfolding withRoom delivered
 windowGiven n x out = delivered (withRoom n (length out) (x .verdict)) (take n (x .window)) out
 
--- a place for an answer, case by case: accepted with eight bytes, little-endian, or refused
-abbrev pub placeBytes : Placed → PlaceBytes
-placeBytes (At k) = record { verdict = Accepted; bytes = bytes64 k }
-placeBytes (Unplaced cause) = record { verdict = Refused cause; bytes = replicate 8 0 }
+-- a number for an answer, case by case: accepted with eight bytes, little-endian, or refused
+abbrev pub numberBytes : NumberAnswer → NumberBytes
+numberBytes (Number k) = record { verdict = Accepted; bytes = bytes64 k }
+numberBytes (NoNumber cause) = record { verdict = Refused cause; bytes = replicate 8 0 }
 
-unfoldable pub placeGiven : Placed → List ℕ → Outcome
+unfoldable pub numberGiven : NumberAnswer → List ℕ → Outcome
 unfolding withRoom delivered
-placeGiven p out = delivered (withRoom 8 (length out) (placeBytes p .verdict)) (placeBytes p .bytes) out
+numberGiven x out = delivered (withRoom 8 (length out) (numberBytes x .verdict)) (numberBytes x .bytes) out
 
--- the five calls
+-- the six calls
 unfoldable pub nextSymbolCall : ℕ → ℕ → List ℕ → ℕ
 unfolding nextSymbol
 nextSymbolCall n rule w = nextNumber (nextSymbol rule n w)
@@ -73,9 +73,13 @@ unfolding windowGiven heightToRank
 heightToRankCall n w = windowGiven n (heightToRank n w)
 
 unfoldable pub placeCall : ℕ → List ℕ → List ℕ → Outcome
-unfolding placeGiven placed
-placeCall n w = placeGiven (placed n w)
+unfolding numberGiven placed
+placeCall n w = numberGiven (placed n w)
 
 unfoldable pub windowAtCall : ℕ → ℕ → List ℕ → Outcome
 unfolding windowGiven located
 windowAtCall n k = windowGiven n (located n k)
+
+unfoldable pub countCall : ℕ → List ℕ → Outcome
+unfolding numberGiven counted
+countCall n = numberGiven (counted n)

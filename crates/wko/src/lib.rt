@@ -12,12 +12,12 @@ ghost use lib.ListN.{length, take, drop};
 ghost use Rattle.refusals.specs.Numbers.{refusal};
 ghost use Rattle.refusals.specs.declared.Cause.{Cause};
 ghost use Rattle.refusals.specs.declared.Verdict.{Verdict};
-ghost use Rattle.ranking.specs.declared.Placed.{Placed};
+ghost use Rattle.ranking.specs.declared.NumberAnswer.{NumberAnswer};
 ghost use Rattle.successors.specs.NextSymbol.{nextNumber};
 ghost use Rattle.weak_orders.specs.declared.WindowAnswer.{WindowAnswer};
-ghost use Rattle.wko.specs.Calls.{toldFirst, withRoom, windowGiven, placeBytes, placeGiven};
-ghost use Rattle.wko.specs.Calls.{nextSymbolCall, rankToHeightCall, heightToRankCall, placeCall, windowAtCall};
-use ranking::Placed;
+ghost use Rattle.wko.specs.Calls.{toldFirst, withRoom, windowGiven, numberBytes, numberGiven};
+ghost use Rattle.wko.specs.Calls.{nextSymbolCall, rankToHeightCall, heightToRankCall, placeCall, windowAtCall, countCall};
+use ranking::NumberAnswer;
 use refusals::Cause;
 use refusals::Verdict;
 use successors::Next;
@@ -125,32 +125,32 @@ pub extern "C" fn wko_height_to_rank(n: u64, window: &[u8], out: &mut [u8]) -> u
     give(weak_orders::height_to_rank(w, n as usize), n as usize, out)
 }
 
-// A place in eight bytes, little-endian; refused, eight zeros.
-struct PlaceBytes {
+// A number in eight bytes, little-endian; refused, eight zeros.
+struct NumberBytes {
     verdict: Verdict,
     bytes: [u8; 8],
 }
 
-fn place_bytes(place: Placed) -> PlaceBytes
-    ensures { λ r. ⌜ r ≡ placeBytes place ⌝ }
+fn number_bytes(x: NumberAnswer) -> NumberBytes
+    ensures { λ r. ⌜ r ≡ numberBytes x ⌝ }
 {
-    match place {
-        Placed::At(k) => PlaceBytes {
+    match x {
+        NumberAnswer::Number(k) => NumberBytes {
             verdict: Verdict::Accepted,
             bytes: frames::field::bytes_of(k),
         },
-        Placed::Refused(cause) => PlaceBytes {
+        NumberAnswer::Refused(cause) => NumberBytes {
             verdict: Verdict::Refused(cause),
             bytes: [0u8; 8],
         },
     }
 }
 
-// A place for an answer, as `give` does it for a window.
-fn give_place(place: Placed, out: &mut [u8]) -> u32
-    ensures { λ r. ⌜ (r, now (out .exit)) ≡ placeGiven place (now (out .entry)) ⌝ }
+// A number for an answer, as `give` does it for a window.
+fn give_number(x: NumberAnswer, out: &mut [u8]) -> u32
+    ensures { λ r. ⌜ (r, now (out .exit)) ≡ numberGiven x (now (out .entry)) ⌝ }
 {
-    let p = place_bytes(place);
+    let p = number_bytes(x);
     let b = p.bytes;
     let told = p.verdict;
     let verdict = with_room(8, out.len(), told);
@@ -169,7 +169,7 @@ pub extern "C" fn wko_place(n: u64, window: &[u8], out: &mut [u8]) -> u32
     ensures { λ r. ⌜ (r, now (out .exit)) ≡ placeCall n (now (window .entry)) (now (out .entry)) ⌝ }
 {
     let w = weak_orders::load(window, n as usize);
-    give_place(ranking::place(w, n as usize), out)
+    give_number(ranking::place(w, n as usize), out)
 }
 
 // The height window of n at a place.
@@ -178,4 +178,12 @@ pub extern "C" fn wko_window_at(n: u64, place: u64, out: &mut [u8]) -> u32
     ensures { λ r. ⌜ (r, now (out .exit)) ≡ windowAtCall n place (now (out .entry)) ⌝ }
 {
     give(ranking::window_at(n as usize, place), n as usize, out)
+}
+
+// How many weak orders of n there are: the steps of a round, and what places stay below.
+#[no_mangle]
+pub extern "C" fn wko_count(n: u64, out: &mut [u8]) -> u32
+    ensures { λ r. ⌜ (r, now (out .exit)) ≡ countCall n (now (out .entry)) ⌝ }
+{
+    give_number(ranking::count(n as usize), out)
 }

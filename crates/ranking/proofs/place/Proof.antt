@@ -6,8 +6,8 @@ use Rattle.refusals.specs.declared.Verdict.the-variants.{Accepted}
 use Rattle.weak_orders.specs.Converted.{isHeightWindow, judgedIn}
 use Rattle.weak_orders.specs.Window.{isHeight}
 use Rattle.weak_orders.proofs.Judged.{judged-array, accepted-by}
-use Rattle.ranking.specs.Answers.{placed, placeBy}
-use Rattle.ranking.specs.declared.Placed.the-variants.{At}
+use Rattle.ranking.specs.Answers.{placed, numberBy}
+use Rattle.ranking.specs.declared.NumberAnswer.the-variants.{Number}
 use Rattle.ranking.proofs.place.Statement.{statement}
 use Rattle.ranking.proofs.place.Tie as tie
 
@@ -40,11 +40,11 @@ enum-known-verdict : tie.Need-enum-known-verdict
 enum-known-verdict c = search needs
 
 returns : tie.Need-returns
-unfolding placed placeBy
-returns c = rw (passed (c .before)) (ap At (c .place-of .ensures))
+unfolding placed numberBy
+returns c = rw (passed (c .before)) (ap Number (c .place-of .ensures))
 
 returns-2 : tie.Need-returns-2
-unfolding placed placeBy
+unfolding placed numberBy
 returns-2 c = rw (sym (told (c .before .before .before)) ∙ c .before .verdict .given .1)
 
 pub place-spec : {M : Type 1} → statement M
