@@ -15,9 +15,15 @@ unfoldable pub levelOf : ℕ → Setting → ℕ → ℤ
 unfolding spacings
 levelOf rule s symbol = s .top -ℤ pos (spacings rule symbol * s .spacing)
 
--- what test 9 asks: top in -10000 … 2000, spacing in 1 … 500, and top - (n - 1) × spacing not below -12000
+-- test 9 asks: top in -10000 … 2000, spacing in 1 … 500, and the lowest of n levels, top - (n - 1) × spacing, not below -12000
+abbrev pub topOk : ℤ → Bool
+topOk top = leZ (negsuc 9999) top && leZ top (pos 2000)
+
+abbrev pub spacingOk : ℕ → Bool
+spacingOk spacing = leb 1 spacing && leb spacing 500
+
+abbrev pub lowestOk : ℕ → Setting → Bool
+lowestOk n s = leZ (negsuc 11999) (s .top -ℤ pos ((n - 1) * s .spacing))
+
 unfoldable pub settingOk : ℕ → Setting → Bool
-settingOk n s =
-    (leZ (negsuc 9999) (s .top) && leZ (s .top) (pos 2000))
-    && ((leb 1 (s .spacing) && leb (s .spacing) 500)
-    && leZ (negsuc 11999) (s .top -ℤ pos ((n - 1) * s .spacing)))
+settingOk n s = topOk (s .top) && (spacingOk (s .spacing) && lowestOk n s)

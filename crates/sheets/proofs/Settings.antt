@@ -10,7 +10,7 @@ use mir.Syntax.{w16}
 use mir.Val.{SFits}
 use borrow.Author.Tests.{leb-true}
 use Rattle.weak_orders.proofs.Tests.{by-test, says-and, says-itself}
-use Rattle.frames.specs.Level.{settingOk}
+use Rattle.frames.specs.Level.{topOk, spacingOk, settingOk}
 use Rattle.sheets.specs.declared.judge.SettingTest.{SettingTest}
 use Rattle.sheets.specs.Judgement.{settingOf, settingTest, noSetting}
 
@@ -21,13 +21,6 @@ false-left a b e = rw e
 false-right : (a b : Bool) → b ≡ false → (a && b) ≡ false
 false-right true b e = e
 false-right false b e = refl
-
--- the tests on top and on spacing
-abbrev pub topOk : ℤ → Bool
-topOk top = leZ (negsuc 9999) top && leZ top (pos 2000)
-
-abbrev pub spacingOk : ℕ → Bool
-spacingOk spacing = leb 1 spacing && leb spacing 500
 
 -- a top that passes has room in 16 bits
 pub top-fits : (top : ℤ) → topOk top ≡ true → SFits w16 top

@@ -1,0 +1,4 @@
+pub mod TextTests
+pub mod ReadTexts
+pub mod Explained
+pub mod Samples
