@@ -132,7 +132,7 @@ mistake 9 "$line" "a lowest level of -12500" "${title}6 1 -10000 500 1,1,1,1,1,1
 if make --no-print-directory run SHEET=$sheet >/dev/null 2>$said; then
   echo "make run of a refused sheet: passed" && status=1
 fi
-grep -qx "round: $line" $said || { echo "make run of a refused sheet: said '$(cat $said)'" && status=1; }
+grep -qxF "round: $line" $said || { echo "make run of a refused sheet: said '$(cat $said)'" && status=1; }
 if command -v script >/dev/null; then
   printf '\004' | script -qec "$round" /dev/null 2>&1 | grep -q "^round: reading a sheet from standard input" ||
     { echo "round on a terminal: does not say that it reads a sheet" && status=1; }

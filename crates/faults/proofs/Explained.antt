@@ -14,9 +14,9 @@ use Rattle.refusals.specs.declared.Verdict.{Verdict}
 use Rattle.refusals.specs.declared.Verdict.the-variants.{Refused}
 use Rattle.successors.specs.Rules.{inForm, isRule}
 use Rattle.frames.specs.Level.{topOk, spacingOk, settingOk}
-use Rattle.sheets.specs.Sheet.{RawSheet, parse}
+use Rattle.sheets.specs.Sheet.{RawSheet, longest, hasTitle, parse}
 use Rattle.sheets.specs.Judgement.{settingOf, judged, judgedSheet, judgedText}
-use Rattle.faults.specs.Faults.{hasByte, endsLine, hasTitle, malformed, startFault, settingFault, sheetFault, textFault, faultOf}
+use Rattle.faults.specs.Faults.{hasByte, endsLine, malformed, startFault, settingFault, sheetFault, textFault, faultOf}
 use Rattle.faults.specs.Claims.{verdictOf, Formless, TooLow, Claims}
 use Rattle.faults.specs.declared.Fault.{Fault}
 use Rattle.faults.specs.declared.Fault.the-variants.{Nothing, TooLong, CarriageReturn, Tab, NotAscii, NoLineFeed, FirstLine}
@@ -49,7 +49,7 @@ Explains s v f = (v ≡ verdictOf f) × Known s f
 
 malformed-explains : (s : List ℕ) → Explains s (Refused SheetMalformed) (malformed s)
 unfolding malformed
-malformed-explains s = go (ltb 128 (length s)) (hasByte 13 13 s) (hasByte 9 9 s) (hasByte 128 255 s) (endsLine s) (hasTitle s)
+malformed-explains s = go (ltb longest (length s)) (hasByte 13 13 s) (hasByte 9 9 s) (hasByte 128 255 s) (endsLine s) (hasTitle s)
   where
     go : (long cr tab high line title : Bool) → Explains s (Refused SheetMalformed) (
         cond long TooLong (cond cr CarriageReturn (cond tab Tab (cond high NotAscii (

@@ -6,9 +6,9 @@ use Rattle.frames.specs.Fields.{sameBytes}
 use Rattle.frames.specs.Level.{settingOk}
 use Rattle.decimals.specs.Reading.{further, next, both, behind, startsWith, closed, ended, run, value, wellWritten}
 use Rattle.decimals.specs.Reading.{number, negative, positive, signedNumber, commaThen, numbers}
-use Rattle.sheets.specs.Sheet.{lengthAndRule, topAndSpacing, fields, sheetLines, wholly, parse}
+use Rattle.sheets.specs.Sheet.{hasTitle, lengthAndRule, topAndSpacing, fields, sheetLines, wholly, parse}
 use Rattle.sheets.specs.Judgement.{roundOf, judged}
-use Rattle.faults.specs.Faults.{hasByte, endsLine, hasTitle, malformed, sheetFault, textFault, faultOf}
+use Rattle.faults.specs.Faults.{hasByte, endsLine, malformed, sheetFault, textFault, faultOf}
 use Rattle.faults.specs.Examples.{Examples}
 
 pub examples : Examples

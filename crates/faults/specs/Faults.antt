@@ -6,13 +6,13 @@ use Prim.Native.Char.{code}
 use Prim.Native.Nat.{ℕ, _-_}
 use lib.Dec.{leb, ltb, eqb}
 use lib.IntN.{ℤ}
-use lib.ListN.{length, take}
+use lib.ListN.{length}
 use Rattle.refusals.specs.Numbers.{causeNumber}
 use Rattle.refusals.specs.declared.Verdict.{Verdict}
 use Rattle.refusals.specs.declared.Verdict.the-variants.{Accepted, Refused}
-use Rattle.frames.specs.Fields.{byte, sameBytes}
+use Rattle.frames.specs.Fields.{byte}
 use Rattle.frames.specs.Level.{topOk, spacingOk}
-use Rattle.sheets.specs.Sheet.{RawSheet, titleLine, parse}
+use Rattle.sheets.specs.Sheet.{RawSheet, longest, hasTitle, parse}
 use Rattle.sheets.specs.Judgement.{judged}
 use Rattle.faults.specs.declared.Fault.{Fault}
 use Rattle.faults.specs.declared.Fault.the-variants.{Nothing, TooLong, CarriageReturn, Tab, NotAscii, NoLineFeed, FirstLine}
@@ -29,16 +29,11 @@ hasByte low high (b ∷ s) = (leb low b && leb b high) || hasByte low high s
 unfoldable pub endsLine : List ℕ → Bool
 endsLine s = eqb (byte s (length s - 1)) (code "\n")
 
--- the first line is the one that every sheet has
-unfoldable pub hasTitle : List ℕ → Bool
-unfolding sameBytes
-hasTitle s = sameBytes (take (length titleLine) s) titleLine
-
 -- the first of these that holds
 unfoldable pub malformed : List ℕ → Fault
 unfolding hasByte endsLine hasTitle
 malformed s =
-    cond (ltb 128 (length s)) TooLong (
+    cond (ltb longest (length s)) TooLong (
     cond (hasByte 13 13 s) CarriageReturn (
     cond (hasByte 9 9 s) Tab (
     cond (hasByte 128 255 s) NotAscii (

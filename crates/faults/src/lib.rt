@@ -1,7 +1,7 @@
 // What is wrong with a sheet, finer than the number of its refusal: what a person is told.
 // Rests on sheets for the reader, the verdict and the parts of test 9. The words are written by the program that prints them.
 ghost use mathlib.Core.Path.{_≡_};
-ghost use Rattle.faults.specs.Faults.{hasByte, endsLine, hasTitle, malformed, startFault, settingFault, refusedFor, faultOf};
+ghost use Rattle.faults.specs.Faults.{hasByte, endsLine, malformed, startFault, settingFault, refusedFor, faultOf};
 use refusals::Verdict;
 use sheets::judge;
 use sheets::sheet;
@@ -56,16 +56,6 @@ fn ends_line(text: &[u8]) -> bool
     text[text.len() - 1] == 10
 }
 
-// The text begins with the first line that every sheet has.
-fn has_title(text: &[u8]) -> bool
-    ensures { λ r. ⌜ r ≡ hasTitle (now (text .entry)) ⌝ }
-{
-    if text.len() < 25 {
-        return false;
-    }
-    check::same(&text[..25], b"n rule top spacing start\n")
-}
-
 // The fault of a text that reads as no sheet.
 fn malformed(text: &[u8]) -> Fault
     ensures { λ r. ⌜ r ≡ malformed (now (text .entry)) ⌝ }
@@ -85,7 +75,7 @@ fn malformed(text: &[u8]) -> Fault
     if !ends_line(text) {
         return Fault::NoLineFeed;
     }
-    if !has_title(text) {
+    if !sheet::has_title(text) {
         return Fault::FirstLine;
     }
     Fault::SecondLine

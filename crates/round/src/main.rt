@@ -55,12 +55,18 @@ fn say(text: &[u8]) {
 fn explain_text(fault: Fault) {
     match fault {
         Fault::TooLong => say(b"the sheet is longer than 128 bytes"),
-        Fault::CarriageReturn => say(b"the sheet has a carriage return: end its lines with a line feed alone"),
+        Fault::CarriageReturn => say(
+            b"the sheet has a carriage return: end its lines with a line feed alone",
+        ),
         Fault::Tab => say(b"the sheet has a tab: put single spaces between its fields"),
-        Fault::NotAscii => say(b"the sheet has a byte above 127: write it in plain ASCII, without a byte order mark"),
+        Fault::NotAscii => say(
+            b"the sheet has a byte above 127: write it in plain ASCII, without a byte order mark",
+        ),
         Fault::NoLineFeed => say(b"the sheet does not end with a line feed"),
         Fault::FirstLine => say(b"the first line is not: n rule top spacing start"),
-        Fault::SecondLine => say(b"the second line is not five fields such as 3 1 -1000 100 1,1,1 (single spaces, decimals of at most 6 digits without leading zeros, 1 to 16 symbols with commas), or more follows it"),
+        Fault::SecondLine => say(
+            b"the second line is not five fields such as 3 1 -1000 100 1,1,1 (single spaces, decimals of at most 6 digits without leading zeros, 1 to 16 symbols with commas), or more follows it",
+        ),
         _ => {}
     }
 }
@@ -71,8 +77,12 @@ fn explain_values(fault: Fault) {
         Fault::Length => say(b"n is not 1 to 8"),
         Fault::Rule => say(b"the rule is not 1, 2 or 3"),
         Fault::Count => say(b"the start has not n symbols"),
-        Fault::RankForm => say(b"the start is not in rank form, as rule 1 asks: each symbol is 1 plus the number of smaller ones, such as 1,1,3"),
-        Fault::HeightForm => say(b"the start is not in height form, as rules 2 and 3 ask: its symbols are 0 to some height without a gap, such as 0,0,1"),
+        Fault::RankForm => say(
+            b"the start is not in rank form, as rule 1 asks: each symbol is 1 plus the number of smaller ones, such as 1,1,3",
+        ),
+        Fault::HeightForm => say(
+            b"the start is not in height form, as rules 2 and 3 ask: its symbols are 0 to some height without a gap, such as 0,0,1",
+        ),
         Fault::Top => say(b"top is not -10000 to 2000, in hundredths of a dBm"),
         Fault::Spacing => say(b"spacing is not 1 to 500, in hundredths of a dB"),
         Fault::LowestLevel => say(b"the lowest level, top - (n - 1) * spacing, is below -12000"),

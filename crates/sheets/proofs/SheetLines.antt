@@ -7,10 +7,11 @@ use Prim.Native.Nat.{ℕ, _+_, _≤_, _<_}
 use native.Mathlib.Omega.{arith}
 use lib.ListN.{length, take, drop, length-take}
 use borrow.Author.Tests.{eq-eqb, ne-eqb, le-leb, lt-leb}
+use Rattle.weak_orders.specs.Says.{Says}
 use Rattle.weak_orders.proofs.Tests.{says-no}
 use Rattle.frames.proofs.ByteTests.{says-same-bytes}
 use Rattle.decimals.specs.Reading.{Found, found, missing, further, behind}
-use Rattle.sheets.specs.Sheet.{RawSheet, titleLine, Fields, fields, sheetOf, sheetLines, wholly, parse}
+use Rattle.sheets.specs.Sheet.{RawSheet, titleLine, hasTitle, Fields, fields, sheetOf, sheetLines, wholly, parse}
 use Rattle.sheets.specs.Held.{sheetHeld, linesOf, parsedOf}
 use Rattle.sheets.specs.declared.sheet.Lines.{Lines}
 use Rattle.decimals.proofs.Readers.{takes-within}
@@ -32,16 +33,23 @@ found-lines l missing e t = absurd (false≢true (rw e at t))
 -- ---- the first line
 
 module _ (s : List ℕ) where
-  pub other-title : ¬ (take 25 s ≡ titleLine) → sheetLines s ≡ missing
-  unfolding sheetLines behind
-  other-title n = rw (says-no (says-same-bytes (take 25 s) titleLine) n)
+  pub says-title : Says (hasTitle s) (take 25 s ≡ titleLine)
+  unfolding hasTitle
+  says-title = says-same-bytes (take 25 s) titleLine
 
-  pub short-text : length s < 25 → sheetLines s ≡ missing
-  short-text h = other-title (λ e. omega (arith, ap length e, length-take 25 s))
+  pub title-long : hasTitle s ≡ true → 25 ≤ length s
+  title-long e = omega (arith, ap length (says-title .to e), length-take 25 s)
 
-  pub same-title : take 25 s ≡ titleLine → sheetLines s ≡ further 25 sheetOf (fields (drop 25 s))
-  unfolding sheetLines behind
-  same-title e = rw (says-same-bytes (take 25 s) titleLine .of e)
+  pub short-title : length s < 25 → hasTitle s ≡ false
+  short-title h = says-no says-title (λ e. omega (arith, ap length e, length-take 25 s))
+
+  pub other-title : hasTitle s ≡ false → sheetLines s ≡ missing
+  unfolding sheetLines behind hasTitle
+  other-title e = rw e
+
+  pub same-title : hasTitle s ≡ true → sheetLines s ≡ further 25 sheetOf (fields (drop 25 s))
+  unfolding sheetLines behind hasTitle
+  same-title e = rw e
 
 -- ---- the second line, behind the first
 

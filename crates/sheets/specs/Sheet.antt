@@ -1,5 +1,5 @@
 -- A sheet as it is written and read (document 01, "The printed round"). Values are kept as they were read.
-use mathlib.Core.Bool.{cond}
+use mathlib.Core.Bool.{Bool, cond}
 use mathlib.Core.List.{List, [], _∷_, _++_, List·Memᴰ}
 use mathlib.Core.Option.{Option, none, some}
 use mathlib.Core.Path.{_≡_}
@@ -7,8 +7,8 @@ use Prim.Native.Char.{code}
 use Prim.Native.Nat.{ℕ, _≤_}
 use lib.Dec.{leb, eqb}
 use lib.IntN.{ℤ, natAbs}
-use lib.ListN.{length}
-use Rattle.frames.specs.Fields.{ascii}
+use lib.ListN.{length, take}
+use Rattle.frames.specs.Fields.{ascii, sameBytes}
 use Rattle.decimals.specs.Text.{decimal, signed, joined}
 use Rattle.decimals.specs.Reading.{Found, found, missing, Reader, both, behind, ended, number, signedNumber, numbers}
 
@@ -49,13 +49,21 @@ pub record Within (x : RawSheet) : Type 0 where
   pub few-start : length (x .start) ≤ 16
   pub start : (v : ℕ) → List·Memᴰ v (x .start) → Short v
 
+-- the bytes that a sheet may have
+abbrev pub longest : ℕ
+longest = 128
+
 -- s is the text of the sheet x, and not too long
 pub record IsText (x : RawSheet) (s : List ℕ) : Type 0 where
   pub text : s ≡ sheetText x
   pub within : Within x
-  pub size : length s ≤ 128
+  pub size : length s ≤ longest
 
 -- ---- read
+
+-- the text begins with the first line
+unfoldable pub hasTitle : List ℕ → Bool
+hasTitle s = sameBytes (take (length titleLine) s) titleLine
 
 -- n and the rule, with a space after each
 unfoldable pub lengthAndRule : Reader (ℕ × ℕ)
@@ -84,6 +92,6 @@ unfoldable pub wholly : ℕ → Found RawSheet → Option RawSheet
 wholly size (found x k) = cond (eqb k size) (some x) none
 wholly size missing = none
 
--- the sheet of a text of at most 128 bytes, or none where the text is malformed
+-- the sheet of a text that is not too long, or none where the text is malformed
 unfoldable pub parse : List ℕ → Option RawSheet
-parse s = cond (leb (length s) 128) (wholly (length s) (sheetLines s)) none
+parse s = cond (leb (length s) longest) (wholly (length s) (sheetLines s)) none

@@ -2,7 +2,7 @@
 ghost use mathlib.Core.Option.{none};
 ghost use mathlib.Core.Path.{_≡_};
 ghost use Rattle.decimals.specs.Reading.{missing, further};
-ghost use Rattle.sheets.specs.Sheet.{sheetOf, lengthAndRule, topAndSpacing, fields, sheetLines, parse};
+ghost use Rattle.sheets.specs.Sheet.{sheetOf, hasTitle, lengthAndRule, topAndSpacing, fields, sheetLines, parse};
 ghost use Rattle.sheets.specs.Held.{lengthAndRuleOf, topAndSpacingOf, blank, linesOf, parsedOf};
 use decimals::Decimal;
 use decimals::SignedDecimal;
@@ -144,14 +144,21 @@ fn fields(s: &[u8]) -> Lines
     }
 }
 
+// Whether a text begins with the first line, which is the same in every sheet.
+pub fn has_title(text: &[u8]) -> bool
+    ensures { λ r. ⌜ r ≡ hasTitle (now (text .entry)) ⌝ }
+{
+    if text.len() < 25 {
+        return false;
+    }
+    check::same(&text[..25], b"n rule top spacing start\n")
+}
+
 // The two lines at the start of a text.
 pub fn sheet_lines(text: &[u8]) -> Lines
     ensures { λ r. ⌜ r ≡ linesOf (sheetLines (now (text .entry))) ⌝ }
 {
-    if text.len() < 25 {
-        return no_lines();
-    }
-    if !check::same(&text[..25], b"n rule top spacing start\n") {
+    if !has_title(text) {
         return no_lines();
     }
     let second = fields(&text[25..]);

@@ -7,7 +7,7 @@ use lib.Dec.{ltb}
 use lib.ListN.{length}
 use borrow.Author.Needs.{needs}
 use borrow.Author.Tests.{lt-ltb, le-ltb, not-true, not-false}
-use Rattle.faults.specs.Faults.{hasByte, endsLine, hasTitle, malformed}
+use Rattle.faults.specs.Faults.{hasByte, endsLine, malformed}
 use Rattle.faults.proofs.malformed.Statement.{statement}
 use Rattle.faults.proofs.malformed.Tie as tie
 
