@@ -1,6 +1,7 @@
 /*
  * A host that drives a round of three symbols under rule 1 over a link that loses questions and answers, and counts how often it meets each
- * weak order. It keeps to what the README asks of hosts. The device at the other end of the link is the library.
+ * weak order. After six steps it is started anew and has forgotten where it was. It keeps to what the README asks of hosts. The device at the
+ * other end of the link is the library.
  */
 #include <inttypes.h>
 #include <stdio.h>
@@ -93,6 +94,7 @@ static uint32_t step(struct link *link, uint64_t *done, unsigned *met)
     wko_build_step(frame, *done + 1);
     sent = ask(link, frame, &answer);
     if (answer.refusal == WKO_STEP_NUMBER) {
+        printf("step %2" PRIu64 "  %s\n", *done + 1, wko_refusal_text(answer.refusal));
         *done = steps_done(link);
         return 0;
     }
@@ -114,8 +116,11 @@ int main(void)
     uint64_t done = 0;
     uint32_t refusal = 0;
     begin(&link);
-    while (refusal == 0)
+    for (int k = 1; refusal == 0; k++) {
         refusal = step(&link, &done, met);
+        if (k == 6)
+            done = 0; /* started anew */
+    }
     for (int i = 0; i < COUNT; i++)
         once += met[i] == 1;
     printf("step %2" PRIu64 "  %s\n", done + 1, wko_refusal_text(refusal));

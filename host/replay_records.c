@@ -28,15 +28,16 @@ static void send(const uint8_t *frame, size_t frame_len, size_t answer_len)
 /* The frame that is built, with room behind it for one that is too long. */
 static uint8_t frame[255];
 
+/* The window stands there whole, whatever n says. */
 static uint8_t *begin(int n, int rule, int top, int spacing, const char *window)
 {
     struct wko_setting setting;
     uint8_t start[255] = {0};
     setting.top = (int16_t)top;
     setting.spacing = (uint16_t)spacing;
-    for (int i = 0; window[i] != 0; i++)
-        start[i] = (uint8_t)(window[i] - '0');
     wko_build_begin(frame, (uint8_t)n, (uint8_t)rule, setting, start);
+    for (int i = 0; window[i] != 0; i++)
+        frame[24 + i] = (uint8_t)(window[i] - '0');
     return frame;
 }
 
@@ -93,7 +94,7 @@ static void refusals(void)
     send(begin(2, 4, 0, 100, "11"), 40, 40);                    /* 7 */
     send(begin(3, 1, 0, 100, "112"), 40, 40);                   /* 8: no rank form */
     send(begin(3, 2, 0, 100, "111"), 40, 40);                   /* 8: no height form */
-    send(changed(begin(2, 1, 0, 100, "11"), 26, 1), 40, 40);    /* 8: an unused byte */
+    send(begin(2, 1, 0, 100, "111"), 40, 40);                   /* 8: an unused byte */
     send(begin(2, 1, -10001, 100, "11"), 40, 40);               /* 9 */
     send(begin(2, 1, 2001, 100, "11"), 40, 40);                 /* 9 */
     send(begin(2, 1, 0, 0, "11"), 40, 40);                      /* 9 */
