@@ -24,9 +24,24 @@ for compiler in g++ clang++; do
 done
 [ -n "$tried" ]
 
+# On a machine of 32 bits the structs are laid out otherwise: the headers do not compile there, but for a host that only sends frames.
+printf 'void *memcpy(void *, const void *, unsigned), *memset(void *, int, unsigned);\nint memcmp(const void *, const void *, unsigned);\n' >"$room/string.h"
+# shellcheck disable=SC2086 # the flags are several words
+narrow() { # narrow FLAG...: the headers for 32 bits, with no more of a C library than the three functions that they use
+  gcc -m32 -std=c11 -ffreestanding -nostdinc -isystem "$(gcc -print-file-name=include)" -I"$room" $flags -fsyntax-only "$@" "$room/headers.c"
+}
+if command -v gcc >/dev/null; then
+  narrow -DWKO_FRAMES_ONLY
+  if narrow 2>"$room/errors"; then
+    echo "headers: another layout of the structs compiles" && exit 1
+  fi
+  grep -q "not laid out as in libwko.a" "$room/errors"
+  tried="$tried; for frames only, 32 bits"
+fi
+
 # A cause such as ShortBuffer is WKO_SHORT_BUFFER in C.
 sed -n 's/^ *Cause::\([A-Za-z]*\) => \([0-9]*\),$/\1 \2/p' crates/refusals/src/lib.rt |
-  sed -e 's/\([a-z]\)\([A-Z]\)/\1_\2/g' | tr 'a-z' 'A-Z' | sed 's/^\([A-Z_]*\) \(.*\)$/WKO_\1 = \2/' >"$room/causes"
+  sed -e 's/\([a-z]\)\([A-Z]\)/\1_\2/g' | tr '[:lower:]' '[:upper:]' | sed 's/^\([A-Z_]*\) \(.*\)$/WKO_\1 = \2/' >"$room/causes"
 sed -n 's/^ *\(WKO_[A-Z_]* = [0-9]*\),\{0,1\}$/\1/p' include/wko.h | cmp - "$room/causes"
 [ -s "$room/causes" ]
 echo "headers: no warning from $tried; $(wc -l <"$room/causes") refusals as in crates/refusals"

@@ -171,7 +171,9 @@ struct wko_exchanged wko_exchange(struct wko_session session, const uint8_t *fra
 }
 #endif
 
-/* The layout that libwko.a was built for: x86-64 Linux, System V ABI. Another one does not compile. */
+/* The layout that libwko.a was built for: x86-64 Linux, System V ABI. Another one does not compile. A host that only sends frames, and does not
+ * link the library, defines WKO_FRAMES_ONLY first and may be any machine. */
+#ifndef WKO_FRAMES_ONLY
 #if defined __cplusplus && __cplusplus >= 201103L
 #define WKO_LAYOUT(holds) static_assert(holds, "wko.h: the structs are not laid out as in libwko.a")
 #elif defined __STDC_VERSION__ && __STDC_VERSION__ >= 201112L
@@ -185,5 +187,6 @@ WKO_LAYOUT(offsetof(struct wko_session, rule) == 16 && offsetof(struct wko_sessi
 WKO_LAYOUT(offsetof(struct wko_session, window) == 22 && offsetof(struct wko_session, done) == 40);
 WKO_LAYOUT(sizeof(struct wko_exchanged) == 56 && offsetof(struct wko_exchanged, session) == 0 && offsetof(struct wko_exchanged, number) == 48);
 #undef WKO_LAYOUT
+#endif
 
 #endif

@@ -1,8 +1,8 @@
 /*
  * wko_frames.h: builds the frames that wko_exchange takes and reads its answers. For hosts and tests; wko.h has the layout.
  *
- * Inline C that needs nothing of libwko.a, so that it serves a host that only sends frames. It is tested with the library; it is not
- * proved. A builder fills all 40 bytes of a frame and tests nothing: what is wrong with a frame, its answer says.
+ * Inline C that needs nothing of libwko.a, so that it serves a host that only sends frames, on any machine (WKO_FRAMES_ONLY in wko.h). It is
+ * tested with the library; it is not proved. A builder fills all 40 bytes of a frame and tests nothing: what is wrong with a frame, its answer says.
  */
 #ifndef WKO_FRAMES_H
 #define WKO_FRAMES_H
