@@ -11,7 +11,7 @@ ghost use Rattle.weak_orders.specs.Window.{padded, bound};
 ghost use Rattle.ranking.specs.Answers.{placed, located};
 ghost use Rattle.ranking.specs.Counts.{L, a, sum, ways, waysFrom, Found};
 ghost use Rattle.ranking.specs.Dictionary.{completionsWith, place, windowAt};
-ghost use Rattle.ranking.specs.Tables.{Entries};
+ghost use Rattle.ranking.specs.Tables.{Entries, isCountTable};
 use refusals::Cause;
 use refusals::Verdict;
 use weak_orders::WindowAnswer;
@@ -29,12 +29,11 @@ pub fn weak_order_count(n: usize) -> u64
     counts[n]
 }
 
-// L(n, 0) to L(n, 16), a row of the table.
-fn row(n: usize) -> [u64; 17]
-    requires { ⌜ n ≤ 16 ⌝ }
+// L(n, 0) to L(n, 16), read off the table.
+fn row_of(counts: &[u64; 289], n: usize) -> [u64; 17]
+    requires { ⌜ (n ≤ 16) × (isCountTable (now counts) ≡ true) ⌝ }
     ensures { λ r. ⌜ Entries r (L n) 17 ⌝ }
 {
-    let counts = tables::by_symbols();
     let mut entries = [0u64; 17];
     let mut k: usize = 0;
     while k < 17 {
@@ -42,6 +41,34 @@ fn row(n: usize) -> [u64; 17]
         k += 1;
     }
     entries
+}
+
+// The same, each row by its number: what is read is then known to the compiler, which keeps it in read-only data and builds no table on
+// the stack.
+fn row(n: usize) -> [u64; 17]
+    requires { ⌜ n ≤ 16 ⌝ }
+    ensures { λ r. ⌜ Entries r (L n) 17 ⌝ }
+{
+    let counts = tables::by_symbols();
+    match n {
+        0 => row_of(&counts, 0),
+        1 => row_of(&counts, 1),
+        2 => row_of(&counts, 2),
+        3 => row_of(&counts, 3),
+        4 => row_of(&counts, 4),
+        5 => row_of(&counts, 5),
+        6 => row_of(&counts, 6),
+        7 => row_of(&counts, 7),
+        8 => row_of(&counts, 8),
+        9 => row_of(&counts, 9),
+        10 => row_of(&counts, 10),
+        11 => row_of(&counts, 11),
+        12 => row_of(&counts, 12),
+        13 => row_of(&counts, 13),
+        14 => row_of(&counts, 14),
+        15 => row_of(&counts, 15),
+        _ => row_of(&counts, 16),
+    }
 }
 
 // L(n, k), the weak orders of n with exactly k different symbols; 0 outside the table.
