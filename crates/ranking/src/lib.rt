@@ -157,14 +157,11 @@ fn ways_from(rest: u64, present: u64) -> [u64; 17]
     requires { ⌜ rest + present < 16 ⌝ }
     ensures { λ r. ⌜ Entries r (λ m. waysFrom rest m present) 17 ⌝ }
 {
-    let counts = ways_with(rest, present);
-    let mut totals = [0u64; 17];
-    let mut total = 0;
-    let mut m: usize = 17;
+    let mut totals = ways_with(rest, present);
+    let mut m: usize = 16;
     while 0 < m {
         m -= 1;
-        total += counts[m];
-        totals[m] = total;
+        totals[m] += totals[m + 1];
     }
     totals
 }
