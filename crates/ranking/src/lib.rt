@@ -134,34 +134,35 @@ fn ways(rest: u64, missing: u64, present: u64) -> u64
     total
 }
 
-// For each m up to 16: the ways to fill rest places with m missing heights. With none present they are a row of the table. No m above
-// rest finds room.
-fn ways_with(rest: u64, present: u64) -> [u64; 17]
-    requires { ⌜ rest + present < 16 ⌝ }
-    ensures { λ r. ⌜ Entries r (λ m. ways rest m present) 17 ⌝ }
+// For each m up to 16: the ways to fill n places with m or more missing heights, none being present. They are sums over a row of the table.
+fn row_sums(n: usize) -> [u64; 17]
+    requires { ⌜ n ≤ 16 ⌝ }
+    ensures { λ r. ⌜ Entries r (λ m. waysFrom n m 0) 17 ⌝ }
 {
-    if present == 0 {
-        return row(rest as usize);
+    let mut sums = row(n);
+    let mut m: usize = 16;
+    while 0 < m {
+        m -= 1;
+        sums[m] += sums[m + 1];
     }
-    let mut counts = [0u64; 17];
-    let mut m = 0;
-    while m <= rest {
-        counts[m as usize] = ways(rest, m, present);
-        m += 1;
-    }
-    counts
+    sums
 }
 
-// For each m up to 16: the ways to fill rest places with m or more missing heights.
+// The same of rest places, any height present being allowed. No m above rest finds room.
 fn ways_from(rest: u64, present: u64) -> [u64; 17]
     requires { ⌜ rest + present < 16 ⌝ }
     ensures { λ r. ⌜ Entries r (λ m. waysFrom rest m present) 17 ⌝ }
 {
-    let mut totals = ways_with(rest, present);
-    let mut m: usize = 16;
+    if present == 0 {
+        return row_sums(rest as usize);
+    }
+    let mut totals = [0u64; 17];
+    let mut total = 0;
+    let mut m = rest + 1;
     while 0 < m {
         m -= 1;
-        totals[m] += totals[m + 1];
+        total += ways(rest, m, present);
+        totals[m as usize] = total;
     }
     totals
 }
