@@ -44,3 +44,12 @@ module _ (t : List ℕ) (h : isCountTable t ≡ true) where
   entry-L (suc n) zero p q = by-recurrence (suc n) zero p q
   entry-L (suc n) (suc k) p q = by-recurrence (suc n) (suc k) p q
       ∙ ap₂ (λ x y. suc k * (x + y)) (entry-L n (suc k) (omega arith) q) (entry-L n k (omega arith) (omega arith))
+
+-- n is none of the numbers below k, as the last arm of a match knows it
+abbrev pub Passed : ℕ → ℕ → Type 0
+Passed n zero = Unit
+Passed n (suc k) = Passed n k × (n ≡ k → ⊥)
+
+pub past : (n k : ℕ) → Passed n k → k ≤ n
+past n zero h = omega arith
+past n (suc k) (h, ne) = omega (arith, past n k h)

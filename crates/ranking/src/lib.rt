@@ -11,7 +11,7 @@ ghost use Rattle.weak_orders.specs.Window.{padded, bound};
 ghost use Rattle.ranking.specs.Answers.{counted, placed, located};
 ghost use Rattle.ranking.specs.Counts.{L, a, sum, ways, waysFrom, Found};
 ghost use Rattle.ranking.specs.Dictionary.{completionsWith, place, windowAt};
-ghost use Rattle.ranking.specs.Tables.{Entries};
+ghost use Rattle.ranking.specs.Tables.{Entries, isCountTable};
 use refusals::Cause;
 use refusals::Verdict;
 use weak_orders::WindowAnswer;
@@ -29,12 +29,11 @@ pub fn weak_order_count(n: usize) -> u64
     counts[n]
 }
 
-// L(n, 0) to L(n, 16), a row of the table.
-fn row(n: usize) -> [u64; 17]
-    requires { ⌜ n ≤ 16 ⌝ }
+// L(n, 0) to L(n, 16), read off the table.
+fn row_of(counts: &[u64; 289], n: usize) -> [u64; 17]
+    requires { ⌜ (n ≤ 16) × (isCountTable (now counts) ≡ true) ⌝ }
     ensures { λ r. ⌜ Entries r (L n) 17 ⌝ }
 {
-    let counts = tables::by_symbols();
     let mut entries = [0u64; 17];
     let mut k: usize = 0;
     while k < 17 {
@@ -42,6 +41,34 @@ fn row(n: usize) -> [u64; 17]
         k += 1;
     }
     entries
+}
+
+// The same, each row by its number: what is read is then known to the compiler, which keeps it in read-only data and builds no table on
+// the stack.
+fn row(n: usize) -> [u64; 17]
+    requires { ⌜ n ≤ 16 ⌝ }
+    ensures { λ r. ⌜ Entries r (L n) 17 ⌝ }
+{
+    let counts = tables::by_symbols();
+    match n {
+        0 => row_of(&counts, 0),
+        1 => row_of(&counts, 1),
+        2 => row_of(&counts, 2),
+        3 => row_of(&counts, 3),
+        4 => row_of(&counts, 4),
+        5 => row_of(&counts, 5),
+        6 => row_of(&counts, 6),
+        7 => row_of(&counts, 7),
+        8 => row_of(&counts, 8),
+        9 => row_of(&counts, 9),
+        10 => row_of(&counts, 10),
+        11 => row_of(&counts, 11),
+        12 => row_of(&counts, 12),
+        13 => row_of(&counts, 13),
+        14 => row_of(&counts, 14),
+        15 => row_of(&counts, 15),
+        _ => row_of(&counts, 16),
+    }
 }
 
 // L(n, k), the weak orders of n with exactly k different symbols; 0 outside the table.
@@ -107,37 +134,35 @@ fn ways(rest: u64, missing: u64, present: u64) -> u64
     total
 }
 
-// For each m up to 16: the ways to fill rest places with m missing heights. With none present they are a row of the table. No m above
-// rest finds room.
-fn ways_with(rest: u64, present: u64) -> [u64; 17]
-    requires { ⌜ rest + present < 16 ⌝ }
-    ensures { λ r. ⌜ Entries r (λ m. ways rest m present) 17 ⌝ }
+// For each m up to 16: the ways to fill n places with m or more missing heights, none being present. They are sums over a row of the table.
+fn row_sums(n: usize) -> [u64; 17]
+    requires { ⌜ n ≤ 16 ⌝ }
+    ensures { λ r. ⌜ Entries r (λ m. waysFrom n m 0) 17 ⌝ }
 {
-    if present == 0 {
-        return row(rest as usize);
+    let mut sums = row(n);
+    let mut m: usize = 16;
+    while 0 < m {
+        m -= 1;
+        sums[m] += sums[m + 1];
     }
-    let mut counts = [0u64; 17];
-    let mut m = 0;
-    while m <= rest {
-        counts[m as usize] = ways(rest, m, present);
-        m += 1;
-    }
-    counts
+    sums
 }
 
-// For each m up to 16: the ways to fill rest places with m or more missing heights.
+// The same of rest places, any height present being allowed. No m above rest finds room.
 fn ways_from(rest: u64, present: u64) -> [u64; 17]
     requires { ⌜ rest + present < 16 ⌝ }
     ensures { λ r. ⌜ Entries r (λ m. waysFrom rest m present) 17 ⌝ }
 {
-    let counts = ways_with(rest, present);
+    if present == 0 {
+        return row_sums(rest as usize);
+    }
     let mut totals = [0u64; 17];
     let mut total = 0;
-    let mut m: usize = 17;
+    let mut m = rest + 1;
     while 0 < m {
         m -= 1;
-        total += counts[m];
-        totals[m] = total;
+        total += ways(rest, m, present);
+        totals[m as usize] = total;
     }
     totals
 }

@@ -1,77 +1,51 @@
--- `ranking::row` meets its contract: the table's test, carried to each entry of the row. Assumes nothing.
-use mathlib.Core.Path.{_≡_, refl}
-use Prim.Native.Nat.{_-_, _≤_}
+-- `ranking::row` meets its contract: in each arm the row's number is known. Assumes nothing.
+use mathlib.Core.Path.{_≡_}
 use native.Mathlib.Omega.{arith}
-use lib.ListN.{length}
-use Rattle.ranking.specs.Counts.{L}
-use Rattle.ranking.specs.Tables.{Entries}
-use Rattle.ranking.proofs.Tabled.{entries-more, entry-L}
 use borrow.Author.Needs.{needs}
+use Rattle.ranking.proofs.Tabled.{past}
 use Rattle.ranking.proofs.row.Statement.{statement}
 use Rattle.ranking.proofs.row.Tie as tie
 
-abbrev Inv-loop : tie.InvT-loop
-Inv-loop n counts entries₀ k₀ entries k = (k ≤ 17) × (length entries ≡ 17) × Entries entries (L n) k
-
-abbrev μ-loop : tie.MeasureT-loop
-μ-loop n counts entries₀ k₀ entries k = 17 - k
-
-by-symbols-requires : tie.Need-by-symbols-requires Inv-loop μ-loop
-by-symbols-requires c κs = search needs
-
-loop-holds : tie.Need-loop-holds Inv-loop μ-loop
-loop-holds c = (search needs, refl, λ i h. absurd (omega arith))
-
-mul-entries : tie.Need-mul-entries Inv-loop μ-loop
-mul-entries c = search needs
-
-add-entries : tie.Need-add-entries Inv-loop μ-loop
-add-entries c = search needs
-
-mul-entries-2 : tie.Need-mul-entries-2 Inv-loop μ-loop
-mul-entries-2 c = search needs
-
-array-read-entries : tie.Need-array-read-entries Inv-loop μ-loop
-array-read-entries c = search needs
-
-mul-entries-3 : tie.Need-mul-entries-3 Inv-loop μ-loop
-mul-entries-3 c = search needs
-
-array-write-entries : tie.Need-array-write-entries Inv-loop μ-loop
-array-write-entries c = search needs
-
-add-k : tie.Need-add-k Inv-loop μ-loop
-add-k c = search needs
-
-loop-less : tie.Need-loop-less Inv-loop μ-loop
-loop-less c = search needs
-
-loop-again : tie.Need-loop-again Inv-loop μ-loop
-loop-again c =
-    let n = c .before .before .before .args .n in
-    let k = c .before .loop .k in
-    let table = c .before .before .by-symbols in
-    let entry = entry-L (table .result) (table .ensures) n k (search needs) (omega arith) in
-    (search needs, search needs, entries-more (c .before .loop .entries) (L n) k _ (search needs) entry (c .before .loop .inv .2))
-
-returns : tie.Need-returns Inv-loop μ-loop
-returns c = λ i h. c .before .loop .inv .2 i (omega arith)
+-- none of the numbers below 16 is left
+last : (c : tie.After-row-of17) → c .before .before .before .before .args .n ≡ 16
+last c =
+    let s = c .before .before .before .before in
+    omega (arith, s .pre, past (s .args .n) 16 (c .before .before .match .rest))
 
 pub row-spec : {M : Type 1} → statement M
-row-spec =
-    tie.close
-    (tie.spec
-    Inv-loop
-    μ-loop
-    by-symbols-requires
-    loop-holds
-    mul-entries
-    add-entries
-    mul-entries-2
-    array-read-entries
-    mul-entries-3
-    array-write-entries
-    add-k
-    loop-less
-    loop-again
-    returns)
+row-spec = tie.close (tie.spec
+    (λ c κs. search needs)
+    (λ c κs. search needs)
+    (λ c κs. search needs)
+    (λ c κs. search needs)
+    (λ c κs. search needs)
+    (λ c κs. search needs)
+    (λ c κs. search needs)
+    (λ c κs. search needs)
+    (λ c κs. search needs)
+    (λ c κs. search needs)
+    (λ c κs. search needs)
+    (λ c κs. search needs)
+    (λ c κs. search needs)
+    (λ c κs. search needs)
+    (λ c κs. search needs)
+    (λ c κs. search needs)
+    (λ c κs. search needs)
+    (λ c κs. search needs)
+    (λ c. rw (c .before .before .match .keys1) (c .row-of .ensures))
+    (λ c. rw (c .before .before .match .keys2) (c .row-of2 .ensures))
+    (λ c. rw (c .before .before .match .keys3) (c .row-of3 .ensures))
+    (λ c. rw (c .before .before .match .keys4) (c .row-of4 .ensures))
+    (λ c. rw (c .before .before .match .keys5) (c .row-of5 .ensures))
+    (λ c. rw (c .before .before .match .keys6) (c .row-of6 .ensures))
+    (λ c. rw (c .before .before .match .keys7) (c .row-of7 .ensures))
+    (λ c. rw (c .before .before .match .keys8) (c .row-of8 .ensures))
+    (λ c. rw (c .before .before .match .keys9) (c .row-of9 .ensures))
+    (λ c. rw (c .before .before .match .keys10) (c .row-of10 .ensures))
+    (λ c. rw (c .before .before .match .keys11) (c .row-of11 .ensures))
+    (λ c. rw (c .before .before .match .keys12) (c .row-of12 .ensures))
+    (λ c. rw (c .before .before .match .keys13) (c .row-of13 .ensures))
+    (λ c. rw (c .before .before .match .keys14) (c .row-of14 .ensures))
+    (λ c. rw (c .before .before .match .keys15) (c .row-of15 .ensures))
+    (λ c. rw (c .before .before .match .keys16) (c .row-of16 .ensures))
+    (λ c. rw (last c) (c .row-of17 .ensures)))
