@@ -1,6 +1,6 @@
 #!/bin/sh
 # What `make install` puts in place is enough for a host: the example is built from there, as C and as C++, and runs. The manual page is
-# rendered and names each call of the header. Tools that are not at hand are said.
+# rendered and names each call of the header. The library needs memcpy alone and has no writable data. Tools that are not at hand are said.
 set -eu
 room=$(mktemp -d)
 trap 'rm -rf "$room"' EXIT
@@ -31,6 +31,10 @@ if command -v "${CXX:-g++}" >/dev/null; then
 else
   echo "install: no C++ compiler here"
 fi
+
+library=$room/usr/lib/libwko.a
+[ "$(nm -u "$library" | awk '$1 == "U" { print $2 }' | sort -u)" = memcpy ] || { echo "install: the library needs more than memcpy" && exit 1; }
+size "$library" | awk 'NR > 1 && $2 + $3 > 0 { exit 1 }' || { echo "install: the library has writable data" && exit 1; }
 
 page=$room/usr/share/man/man3/wko.3
 if command -v groff >/dev/null; then
