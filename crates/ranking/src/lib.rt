@@ -159,15 +159,17 @@ fn row_sums(n: usize) -> [u64; 17]
     sums
 }
 
-// The same of rest places, any height present being allowed. No m above rest finds room.
-fn ways_from(rest: u64, present: u64) -> [u64; 17]
+// The same of rest places, any height present being allowed. No m above rest finds room. The numbers are put where the caller keeps them:
+// as a result they would take their place on the stack twice while `ways` runs.
+fn ways_from(rest: u64, present: u64, totals: &mut [u64; 17])
     requires { ⌜ rest + present < 16 ⌝ }
-    ensures { λ r. ⌜ Entries r (λ m. waysFrom rest m present) 17 ⌝ }
+    ensures { λ _. ⌜ Entries (now (totals .exit)) (λ m. waysFrom rest m present) 17 ⌝ }
 {
     if present == 0 {
-        return row_sums(rest as usize);
+        *totals = row_sums(rest as usize);
+        return;
     }
-    let mut totals = [0u64; 17];
+    *totals = [0u64; 17];
     let mut total = 0;
     let mut m = rest + 1;
     while 0 < m {
@@ -175,7 +177,6 @@ fn ways_from(rest: u64, present: u64) -> [u64; 17]
         total += ways(rest, m, present);
         totals[m as usize] = total;
     }
-    totals
 }
 
 // The larger of two numbers.
@@ -201,15 +202,16 @@ fn bound(w: [u8; 16], i: usize) -> usize
 
 // For each symbol v below n: the completions of the first i symbols of w with v behind them. Where v is not among them it is missing no
 // longer and one more is present; the ways are those in which it occurs again and those in which it does not.
-fn continuations(w: [u8; 16], n: usize, i: usize) -> [u64; 16]
+fn continuations(w: [u8; 16], n: usize, i: usize, counts: &mut [u64; 16])
     requires { ⌜ (i < n) × (n ≤ 16) × (bound (take i w) ≤ n) ⌝ }
-    ensures { λ r. ⌜ Entries r (completionsWith n (take i w)) n ⌝ }
+    ensures { λ _. ⌜ Entries (now (counts .exit)) (completionsWith n (take i w)) n ⌝ }
 {
     let present = weak_orders::different(w, i) as usize;
     let seen = weak_orders::counts(w, 0, i);
     let top = bound(w, i);
-    let totals = ways_from((n - 1 - i) as u64, present as u64);
-    let mut counts = [0u64; 16];
+    let mut totals = [0u64; 17];
+    ways_from((n - 1 - i) as u64, present as u64, &mut totals);
+    *counts = [0u64; 16];
     let mut v: usize = 0;
     while v < n {
         let missing = larger(top, v + 1) - present;
@@ -220,13 +222,12 @@ fn continuations(w: [u8; 16], n: usize, i: usize) -> [u64; 16]
         counts[v] = count;
         v += 1;
     }
-    counts
 }
 
 // The first v counts added up.
-fn sum_below(counts: [u64; 16], v: usize) -> u64
-    requires { ⌜ (v ≤ 16) × (sum (λ u. getD counts u 0) v < 2 ^ 63) ⌝ }
-    ensures { λ r. ⌜ r ≡ sum (λ u. getD counts u 0) v ⌝ }
+fn sum_below(counts: &[u64; 16], v: usize) -> u64
+    requires { ⌜ (v ≤ 16) × (sum (λ u. getD (now counts) u 0) v < 2 ^ 63) ⌝ }
+    ensures { λ r. ⌜ r ≡ sum (λ u. getD (now (counts .entry)) u 0) v ⌝ }
 {
     let mut total = 0;
     let mut u = 0;
@@ -242,10 +243,12 @@ fn place_of(w: [u8; 16], n: usize) -> u64
     requires { ⌜ isHeightWindow n w ≡ true ⌝ }
     ensures { λ r. ⌜ r ≡ place (take n w) ⌝ }
 {
+    let mut counts = [0u64; 16];
     let mut before = 0;
     let mut i = 0;
     while i < n {
-        before += sum_below(continuations(w, n, i), w[i] as usize);
+        continuations(w, n, i, &mut counts);
+        before += sum_below(&counts, w[i] as usize);
         i += 1;
     }
     before
@@ -258,9 +261,9 @@ struct Next {
 }
 
 // The symbol of the window at the place left, where counts says how many windows go on with each symbol below n.
-fn symbol_at(counts: [u64; 16], n: usize, left: u64) -> Next
-    requires { ⌜ (n ≤ 16) × (left < sum (λ u. getD counts u 0) n) ⌝ }
-    ensures { λ r. ⌜ (r .symbol < n) × Found (λ u. getD counts u 0) left (r .symbol) (r .left) ⌝ }
+fn symbol_at(counts: &[u64; 16], n: usize, left: u64) -> Next
+    requires { ⌜ (n ≤ 16) × (left < sum (λ u. getD (now counts) u 0) n) ⌝ }
+    ensures { λ r. ⌜ (r .symbol < n) × Found (λ u. getD (now (counts .entry)) u 0) left (r .symbol) (r .left) ⌝ }
 {
     let mut rest = left;
     let mut v: usize = 0;
@@ -279,11 +282,13 @@ fn window_of(n: usize, place: u64) -> [u8; 16]
     requires { ⌜ (n ≤ 16) × (place < a n) ⌝ }
     ensures { λ r. ⌜ r ≡ padded (windowAt n place) ⌝ }
 {
+    let mut counts = [0u64; 16];
     let mut window = [0u8; 16];
     let mut left = place;
     let mut i = 0;
     while i < n {
-        let next = symbol_at(continuations(window, n, i), n, left);
+        continuations(window, n, i, &mut counts);
+        let next = symbol_at(&counts, n, left);
         window[i] = next.symbol;
         left = next.left;
         i += 1;

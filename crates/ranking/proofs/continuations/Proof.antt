@@ -18,11 +18,11 @@ use Rattle.ranking.proofs.continuations.Statement.{statement}
 use Rattle.ranking.proofs.continuations.Tie as tie
 
 abbrev Inv-loop : tie.InvT-loop
-Inv-loop n i present seen top totals counts₀ v₀ counts v =
+Inv-loop n i counts₀ present seen top totals v₀ counts v =
     (v ≤ n) × (length counts ≡ 16) × Entries counts (counted seen top present totals) v
 
 abbrev μ-loop : tie.MeasureT-loop
-μ-loop n i present seen top totals counts₀ v₀ counts v = n - v
+μ-loop n i counts₀ present seen top totals v₀ counts v = n - v
 
 -- what was found out about the prefix
 symbols : (s : tie.After-different Inv-loop μ-loop) → s .different .result ≡ different (take (s .before .args .i) (s .before .args .w))
@@ -33,21 +33,22 @@ symbols s =
 long : (s : tie.Start Inv-loop μ-loop) → length (take (s .args .i) (s .args .w)) ≡ s .args .i
 long s = let l : length (s .args .w) ≡ 16 = search needs in omega (arith, length-take (s .args .i) (s .args .w))
 
-known : (s : tie.After-ways-from Inv-loop μ-loop) →
-    let a = s .before .before .before .before .args in
-    Known (a .n) (take (a .i) (a .w)) (s .before .before .counts .result) (s .before .bound .result)
-    (s .before .before .before .different .result) (s .ways-from .result)
+known : (s : tie.After-counts2 Inv-loop μ-loop) →
+    let b = s .before .before .before in
+    let a = b .before .before .before .args in
+    Known (a .n) (take (a .i) (a .w)) (b .before .counts .result) (b .bound .result) (b .before .before .different .result) (s .before .ways-from .last .1 .1 .0)
 known s =
-    let t = s .before .before .before .before in
+    let b = s .before .before .before in
+    let t = b .before .before .before in
     let l = long t in
     record {
       short = omega arith;
       few = t .pre .1;
       low = t .pre .2;
-      occurring = s .before .before .counts .ensures;
-      largest = s .before .bound .ensures;
-      symbols = symbols (s .before .before .before);
-      ways = λ m h. s .ways-from .ensures m h ∙ ap (λ r. waysFrom r m (s .before .before .before .different .result)) (omega arith);
+      occurring = b .before .counts .ensures;
+      largest = b .bound .ensures;
+      symbols = symbols (b .before .before);
+      ways = λ m h. s .before .ways-from .ensures m h ∙ ap (λ r. waysFrom r m (b .before .before .different .result)) (omega arith);
     }
 
 different-requires : tie.Need-different-requires Inv-loop μ-loop
@@ -70,8 +71,8 @@ sub-ways-from-2 c = search needs
 
 ways-from-requires : tie.Need-ways-from-requires Inv-loop μ-loop
 ways-from-requires c κs =
-    let t = c .before .before .before in
-    omega (arith, symbols (c .before .before), long t, different≤length (take (t .args .i) (t .args .w)))
+    let t = c .before .before .before .before in
+    omega (arith, symbols (c .before .before .before), long t, different≤length (take (t .args .i) (t .args .w)))
 
 loop-holds : tie.Need-loop-holds Inv-loop μ-loop
 loop-holds c = (search needs, refl, λ i h. absurd (omega arith))
@@ -115,8 +116,8 @@ add-count c =
 mul-counts : tie.Need-mul-counts Inv-loop μ-loop
 mul-counts c = search needs
 
-array-write-counts : tie.Need-array-write-counts Inv-loop μ-loop
-array-write-counts c = search needs
+element-write-counts : tie.Need-element-write-counts Inv-loop μ-loop
+element-write-counts c = search needs
 
 add-v : tie.Need-add-v Inv-loop μ-loop
 add-v c = search needs
@@ -127,11 +128,12 @@ loop-less c = search needs
 -- the count of the symbol v, held by the prefix or not
 count : (c : tie.Joined1 Inv-loop μ-loop) →
     let s = c .before .before .before .before in
+    let b = s .before .before .before in
     c .if1 .count
-    ≡ counted (s .before .before .counts .result) (s .before .bound .result) (s .before .before .before .different .result)
-    (s .ways-from .result) (c .before .before .before .loop .v)
+    ≡ counted (b .before .counts .result) (b .bound .result) (b .before .before .different .result)
+    (s .before .ways-from .last .1 .1 .0) (c .before .before .before .loop .v)
 count c =
-    let seen = getD (c .before .before .before .before .before .before .counts .result) (c .before .before .before .loop .v) 0 in
+    let seen = getD (c .before .before .before .before .before .before .before .before .counts .result) (c .before .before .before .loop .v) 0 in
     let e = sym (c .before .larger .ensures) in
     ⊎-elim
     (λ j. rw (ap (ltb 0) (j .0 .taken), e) (j .1))
@@ -141,8 +143,9 @@ count c =
 loop-again : tie.Need-loop-again Inv-loop μ-loop
 loop-again c =
     let s = c .before .before .before .before in
-    let f = counted (s .before .before .counts .result) (s .before .bound .result) (s .before .before .before .different .result)
-    (s .ways-from .result) in
+    let b = s .before .before .before in
+    let f = counted (b .before .counts .result) (b .bound .result) (b .before .before .different .result)
+    (s .before .ways-from .last .1 .1 .0) in
     let l = c .before .before .before .loop in
     let more = entries-more (l .counts) f (l .v) (c .if1 .count) (omega arith) (count c) (l .inv .2) in
     (search needs, search needs, more)
@@ -175,7 +178,7 @@ continuations-spec =
     array-read-count-2
     add-count
     mul-counts
-    array-write-counts
+    element-write-counts
     add-v
     loop-less
     loop-again

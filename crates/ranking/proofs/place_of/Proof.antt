@@ -13,31 +13,31 @@ use Rattle.ranking.proofs.place_of.Statement.{statement}
 use Rattle.ranking.proofs.place_of.Tie as tie
 
 abbrev Inv-loop : tie.InvT-loop
-Inv-loop n w before₀ i₀ before i = (i ≤ n) × (n ≤ 16) × (before ≡ sum (placeAt (take n w)) i)
+Inv-loop n w counts₀ before₀ i₀ counts before i = (i ≤ n) × (n ≤ 16) × (before ≡ sum (placeAt (take n w)) i)
 
 abbrev μ-loop : tie.MeasureT-loop
-μ-loop n w before₀ i₀ before i = n - i
+μ-loop n w counts₀ before₀ i₀ counts before i = n - i
 
 long : (s : tie.Start Inv-loop μ-loop) → length (s .args .t1) ≡ 16
 long s = search needs
 
 -- what the symbol at i adds
 added : (c : tie.After-continuations Inv-loop μ-loop) →
-    let a = c .before .before .before .args in
-    let i = c .before .before .loop .i in
-    sum (λ v. getD (c .continuations .result) v 0) (getD (a .t1) i 0) ≡ placeAt (take (a .n) (a .t1)) i
-added c =
-    let s = c .before .before .before in
-    placed-at (s .args .t1) (s .args .n) (long s) (s .pre) (c .before .before .loop .i) (search needs)
-    (c .continuations .result) (c .continuations .ensures)
-
-next : (c : tie.After-sum-below Inv-loop μ-loop) →
-    let a = c .before .before .before .before .args in
-    c .before .before .before .loop .before + c .sum-below .result ≡ sum (placeAt (take (a .n) (a .t1))) (c .before .before .before .loop .i + 1)
-next c =
     let a = c .before .before .before .before .args in
     let i = c .before .before .before .loop .i in
-    omega (arith, c .before .before .before .loop .inv .2, c .sum-below .ensures, added (c .before), sum-more (placeAt (take (a .n) (a .t1))) i)
+    sum (λ v. getD (c .continuations .last .1 .1 .1 .0) v 0) (getD (a .t1) i 0) ≡ placeAt (take (a .n) (a .t1)) i
+added c =
+    let s = c .before .before .before .before in
+    placed-at (s .args .t1) (s .args .n) (long s) (s .pre) (c .before .before .before .loop .i) (search needs)
+    (c .continuations .last .1 .1 .1 .0) (c .continuations .ensures)
+
+next : (c : tie.After-sum-below Inv-loop μ-loop) →
+    let a = c .before .before .before .before .before .before .args in
+    c .before .before .before .before .before .loop .before + c .sum-below .result ≡ sum (placeAt (take (a .n) (a .t1))) (c .before .before .before .before .before .loop .i + 1)
+next c =
+    let a = c .before .before .before .before .before .before .args in
+    let i = c .before .before .before .before .before .loop .i in
+    omega (arith, c .before .before .before .before .before .loop .inv .2, c .sum-below .ensures, added (c .before .before), sum-more (placeAt (take (a .n) (a .t1))) i)
 
 loop-holds : tie.Need-loop-holds Inv-loop μ-loop
 unfolding sum
@@ -45,8 +45,8 @@ loop-holds c = (search needs, of-height-window (c .args .t1) (c .args .n) (c .pr
 
 continuations-requires : tie.Need-continuations-requires Inv-loop μ-loop
 continuations-requires c κs =
-    let a = c .before .before .args in
-    (search needs, search needs, prefix-low (a .t1) (a .n) (search needs) (c .before .before .pre) (c .before .loop .i) (search needs))
+    let a = c .before .before .before .args in
+    (search needs, search needs, prefix-low (a .t1) (a .n) (search needs) (c .before .before .before .pre) (c .before .before .loop .i) (search needs))
 
 array-read-sum-below : tie.Need-array-read-sum-below Inv-loop μ-loop
 array-read-sum-below c = search needs
@@ -56,17 +56,17 @@ cast-sum-below c = search needs
 
 sum-below-requires : tie.Need-sum-below-requires Inv-loop μ-loop
 sum-below-requires c κs =
-    let s = c .before .before .before in
-    let i = c .before .before .loop .i in
+    let s = c .before .before .before .before .before in
+    let i = c .before .before .before .before .loop .i in
     let f = placeAt (take (s .args .n) (s .args .t1)) in (
       omega (arith, symbol-low (s .args .t1) (s .args .n) (long s) (s .pre) i (search needs)),
-      omega (arith, added c, sum-more f i, placed-fits (s .args .t1) (s .args .n) (long s) (s .pre) (i + 1) (omega arith)),
+      omega (arith, added (c .before), sum-more f i, placed-fits (s .args .t1) (s .args .n) (long s) (s .pre) (i + 1) (omega arith)),
     )
 
 add-before : tie.Need-add-before Inv-loop μ-loop
 add-before c =
-    let s = c .before .before .before .before in
-    let i = c .before .before .before .loop .i in
+    let s = c .before .before .before .before .before .before in
+    let i = c .before .before .before .before .before .loop .i in
     record { fits = omega (arith, next c, placed-fits (s .args .t1) (s .args .n) (long s) (s .pre) (i + 1) (omega arith)) }
 
 add-i : tie.Need-add-i Inv-loop μ-loop

@@ -10,10 +10,10 @@ use Rattle.ranking.proofs.sum_below.Statement.{statement}
 use Rattle.ranking.proofs.sum_below.Tie as tie
 
 abbrev Inv-loop : tie.InvT-loop
-Inv-loop v counts total₀ u₀ total u = (u ≤ v) × (total ≡ sum (λ u. getD counts u 0) u)
+Inv-loop counts v total₀ u₀ total u = (u ≤ v) × (total ≡ sum (λ u. getD counts u 0) u)
 
 abbrev μ-loop : tie.MeasureT-loop
-μ-loop v counts total₀ u₀ total u = v - u
+μ-loop counts v total₀ u₀ total u = v - u
 
 loop-holds : tie.Need-loop-holds Inv-loop μ-loop
 unfolding sum
@@ -22,15 +22,15 @@ loop-holds c = (search needs, refl)
 mul-total : tie.Need-mul-total Inv-loop μ-loop
 mul-total c = search needs
 
-array-read-total : tie.Need-array-read-total Inv-loop μ-loop
-array-read-total c = search needs
+element-copy-out-total : tie.Need-element-copy-out-total Inv-loop μ-loop
+element-copy-out-total c = search needs
 
 add-total : tie.Need-add-total Inv-loop μ-loop
 add-total c =
-    let f : ℕ → ℕ = λ u. getD (c .before .before .args .t1) u 0 in
-    let u = c .before .loop .u in
-    let v = c .before .before .args .v in
-    record { fits = omega (arith, c .before .loop .inv .1, sum-more f u, sum-mono f (u + 1) v (omega arith), c .before .before .pre .1) }
+    let s = c .before .before .before in
+    let f : ℕ → ℕ = λ u. getD (s .args .counts .now) u 0 in
+    let l = c .before .before .loop in
+    record { fits = omega (arith, l .inv .1, sum-more f (l .u), sum-mono f (l .u + 1) (s .args .v) (omega arith), s .pre .1) }
 
 add-u : tie.Need-add-u Inv-loop μ-loop
 add-u c = search needs
@@ -40,14 +40,15 @@ loop-less c = search needs
 
 loop-again : tie.Need-loop-again Inv-loop μ-loop
 loop-again c =
-    let f : ℕ → ℕ = λ u. getD (c .before .before .args .t1) u 0 in
-    (search needs, omega (arith, c .before .loop .inv .1, sum-more f (c .before .loop .u)))
+    let f : ℕ → ℕ = λ u. getD (c .before .before .before .args .counts .now) u 0 in
+    let l = c .before .before .loop in
+    (search needs, omega (arith, l .inv .1, sum-more f (l .u)))
 
 returns : tie.Need-returns Inv-loop μ-loop
 returns c =
     let a = c .before .before .args in
     let e : c .before .loop .u ≡ a .v = omega arith in
-    c .before .loop .inv .1 ∙ ap (sum (λ u. getD (a .t1) u 0)) e
+    c .before .loop .inv .1 ∙ ap (sum (λ u. getD (a .counts .now) u 0)) e
 
 pub sum-below-spec : {M : Type 1} → statement M
 sum-below-spec =
@@ -57,7 +58,7 @@ sum-below-spec =
     μ-loop
     loop-holds
     mul-total
-    array-read-total
+    element-copy-out-total
     add-total
     add-u
     loop-less

@@ -10,28 +10,28 @@ use Rattle.ranking.proofs.symbol_at.Statement.{statement}
 use Rattle.ranking.proofs.symbol_at.Tie as tie
 
 abbrev Inv-loop : tie.InvT-loop
-Inv-loop n left counts rest₀ v₀ rest v = (v < n) × (sum (λ u. getD counts u 0) v + rest ≡ left)
+Inv-loop counts n left rest₀ v₀ rest v = (v < n) × (sum (λ u. getD counts u 0) v + rest ≡ left)
 
 abbrev μ-loop : tie.MeasureT-loop
-μ-loop n left counts rest₀ v₀ rest v = n - v
+μ-loop counts n left rest₀ v₀ rest v = n - v
 
 loop-holds : tie.Need-loop-holds Inv-loop μ-loop
 loop-holds c =
-    let f : ℕ → ℕ = λ u. getD (c .args .t1) u 0 in
+    let f : ℕ → ℕ = λ u. getD (c .args .counts .now) u 0 in
     let z = sum-zero f in
     (sum-before f 0 (c .args .n) (c .args .left) (omega arith) (c .pre .1), omega arith)
 
-mul-loop : tie.Need-mul-loop Inv-loop μ-loop
-mul-loop c = search needs
+mul-if1 : tie.Need-mul-if1 Inv-loop μ-loop
+mul-if1 c = search needs
 
-array-read-loop : tie.Need-array-read-loop Inv-loop μ-loop
-array-read-loop c = search needs
+element-copy-out-if1 : tie.Need-element-copy-out-if1 Inv-loop μ-loop
+element-copy-out-if1 c = search needs
 
 mul-rest : tie.Need-mul-rest Inv-loop μ-loop
 mul-rest c = search needs
 
-array-read-rest : tie.Need-array-read-rest Inv-loop μ-loop
-array-read-rest c = search needs
+element-copy-out-rest : tie.Need-element-copy-out-rest Inv-loop μ-loop
+element-copy-out-rest c = search needs
 
 sub-rest : tie.Need-sub-rest Inv-loop μ-loop
 sub-rest c = search needs
@@ -44,17 +44,18 @@ loop-less c = search needs
 
 loop-again : tie.Need-loop-again Inv-loop μ-loop
 loop-again c =
-    let a = c .before .before .args in
-    let f : ℕ → ℕ = λ u. getD (a .t1) u 0 in
-    let v = c .before .loop .v in
-    let e : sum f (v + 1) + (c .before .loop .rest - f v) ≡ a .left = omega (arith, sum-more f v, c .before .loop .inv .1) in
-    (sum-before f (v + 1) (a .n) (a .left) (omega arith) (c .before .before .pre .1), e)
+    let l = c .before .before .before in
+    let a = l .before .args in
+    let f : ℕ → ℕ = λ u. getD (a .counts .now) u 0 in
+    let v = l .loop .v in
+    let e : sum f (v + 1) + (l .loop .rest - f v) ≡ a .left = omega (arith, sum-more f v, l .loop .inv .1) in
+    (sum-before f (v + 1) (a .n) (a .left) (omega arith) (l .before .pre .1), e)
 
-cast-t14 : tie.Need-cast-t14 Inv-loop μ-loop
-cast-t14 c = search needs
+cast-t13 : tie.Need-cast-t13 Inv-loop μ-loop
+cast-t13 c = search needs
 
 returns : tie.Need-returns Inv-loop μ-loop
-returns c = (search needs, record { at = c .before .loop .inv .1; within = search needs })
+returns c = (search needs, record { at = c .before .before .loop .inv .1; within = search needs })
 
 pub symbol-at-spec : {M : Type 1} → statement M
 symbol-at-spec =
@@ -63,13 +64,13 @@ symbol-at-spec =
     Inv-loop
     μ-loop
     loop-holds
-    mul-loop
-    array-read-loop
+    mul-if1
+    element-copy-out-if1
     mul-rest
-    array-read-rest
+    element-copy-out-rest
     sub-rest
     add-v
     loop-less
     loop-again
-    cast-t14
+    cast-t13
     returns)

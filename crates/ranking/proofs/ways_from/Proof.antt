@@ -35,7 +35,7 @@ add-m c = search needs
 
 loop-holds : tie.Need-loop-holds Inv-loop μ-loop
 loop-holds c =
-    let a = c .before .args in
+    let a = c .before .before .args in
     let none : (i : ℕ) → a .rest < i → waysFrom (a .rest) i (a .present) ≡ 0 = λ i l. waysFrom-none (a .rest) i (a .present) l in (
       search needs,
       sym (none (a .rest + 1) (omega arith)),
@@ -51,11 +51,11 @@ ways-requires c κs = search needs
 
 -- one term more
 next : (c : tie.After-ways Inv-loop μ-loop) →
-    let a = c .before .before .before .before .args in
+    let a = c .before .before .before .before .before .args in
     let l = c .before .before .loop in
     l .total + c .ways .result ≡ waysFrom (a .rest) (l .m - 1) (a .present)
 next c =
-    let a = c .before .before .before .before .args in
+    let a = c .before .before .before .before .before .args in
     let l = c .before .before .loop in
     let e : suc (l .m - 1) ≡ l .m = omega arith in
     omega (
@@ -68,22 +68,22 @@ next c =
 
 add-total : tie.Need-add-total Inv-loop μ-loop
 add-total c =
-    let s = c .before .before .before .before in
+    let s = c .before .before .before .before .before in
     let small = waysFrom-small (s .args .rest) (c .before .before .loop .m - 1) (s .args .present) (omega (arith, s .pre)) in
     record { fits = omega (arith, next c, small) }
 
 mul-totals : tie.Need-mul-totals Inv-loop μ-loop
 mul-totals c = search needs
 
-array-write-totals : tie.Need-array-write-totals Inv-loop μ-loop
-array-write-totals c = search needs
+element-write-totals : tie.Need-element-write-totals Inv-loop μ-loop
+element-write-totals c = search needs
 
 loop-less : tie.Need-loop-less Inv-loop μ-loop
 loop-less c = search needs
 
 loop-again : tie.Need-loop-again Inv-loop μ-loop
 loop-again c =
-    let a = c .before .before .before .before .args in
+    let a = c .before .before .before .before .before .args in
     let l = c .before .before .loop in
     let f : ℕ → ℕ = λ i. waysFrom (a .rest) i (a .present) in (
       search needs,
@@ -109,7 +109,7 @@ ways-from-spec =
     ways-requires
     add-total
     mul-totals
-    array-write-totals
+    element-write-totals
     loop-less
     loop-again
     returns-2)

@@ -15,29 +15,29 @@ use Rattle.ranking.proofs.window_of.Statement.{statement}
 use Rattle.ranking.proofs.window_of.Tie as tie
 
 abbrev Inv-loop : tie.InvT-loop
-Inv-loop n place window₀ left₀ i₀ window left i =
+Inv-loop n place counts₀ window₀ left₀ i₀ counts window left i =
     (i ≤ n) × (window ≡ padded (take i (windowAt n place))) × Reached n (windowAt n place) i left
 
 abbrev μ-loop : tie.MeasureT-loop
-μ-loop n place window₀ left₀ i₀ window left i = n - i
+μ-loop n place counts₀ window₀ left₀ i₀ counts window left i = n - i
 
 loop-holds : tie.Need-loop-holds Inv-loop μ-loop
 loop-holds c = (search needs, padded-nil, reached-start (c .args .n) (c .args .place) (c .pre .1))
 
 continuations-requires : tie.Need-continuations-requires Inv-loop μ-loop
 continuations-requires c κs =
-    let a = c .before .before .args in
-    let p = c .before .before .pre in
-    (search needs, search needs, found-low (a .n) (a .place) (p .0) (p .1) _ (c .before .loop .i) (search needs) (c .before .loop .inv .1))
+    let a = c .before .before .before .args in
+    let p = c .before .before .before .pre in
+    (search needs, search needs, found-low (a .n) (a .place) (p .0) (p .1) _ (c .before .before .loop .i) (search needs) (c .before .before .loop .inv .1))
 
 symbol-at-requires : tie.Need-symbol-at-requires Inv-loop μ-loop
 symbol-at-requires c κs =
-    let a = c .before .before .before .args in
-    let p = c .before .before .before .pre in
-    let l = c .before .before .loop in (
+    let a = c .before .before .before .before .before .args in
+    let p = c .before .before .before .before .before .pre in
+    let l = c .before .before .before .before .loop in (
       search needs,
       found-within (a .n) (a .place) (p .0) (p .1) _ (l .i) (search needs) (l .inv .1) (l .left) (search needs) (l .inv .2)
-          (c .continuations .result) (c .continuations .ensures),
+          (c .before .continuations .last .1 .1 .1 .0) (c .before .continuations .ensures),
     )
 
 array-write-window : tie.Need-array-write-window Inv-loop μ-loop
@@ -51,12 +51,12 @@ loop-less c = search needs
 
 loop-again : tie.Need-loop-again Inv-loop μ-loop
 loop-again c =
-    let a = c .before .before .before .before .args in
-    let p = c .before .before .before .before .pre in
-    let l = c .before .before .before .loop in
+    let a = c .before .before .before .before .before .before .args in
+    let p = c .before .before .before .before .before .before .pre in
+    let l = c .before .before .before .before .before .loop in
     let (x, m) = c .symbol-at .ensures in
     let (e, R) = found-next (a .n) (a .place) (p .0) (p .1) _ (l .i) (search needs) (l .inv .1) (l .left) (search needs) (l .inv .2)
-    (c .before .continuations .result) (c .before .continuations .ensures) _ _ x m in
+    (c .before .before .continuations .last .1 .1 .1 .0) (c .before .before .continuations .ensures) _ _ x m in
     (search needs, e, R)
 
 returns : tie.Need-returns Inv-loop μ-loop
