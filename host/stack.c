@@ -5,7 +5,7 @@
 #include "testing.h"
 #include <ucontext.h>
 
-enum { SIZE = 1 << 14, MOST = 1536, ROUNDS = 3000 };
+enum { SIZE = 1 << 14, MOST = 1500, ROUNDS = 3000 };
 
 static uint8_t stack[SIZE], ranks[16], heights[16], out[40], frame[40];
 static uint64_t place;
