@@ -70,14 +70,6 @@ pub a≤most : (n : ℕ) → n ≤ 17 → a n ≤ most
 unfolding a
 a≤most n h = let e : a 17 ≡ most = refl in omega (arith, a-mono n 17 h)
 
--- a(18) fits too
-abbrev pub widest : ℕ
-widest = 3385534663256845323
-
-pub ways-wide : (r m p : ℕ) → r + p ≤ 18 → ways r m p ≤ widest
-unfolding a
-ways-wide r m p h = let e : a 18 ≡ widest = refl in omega (arith, ways≤a r m p, a-mono (p + r) 18 (omega arith))
-
 pub waysFrom-small : (r m p : ℕ) → r + p ≤ 17 → waysFrom r m p ≤ most
 waysFrom-small r m p h = omega (arith, waysFrom≤a r m p, a≤most (p + r) (omega arith))
 

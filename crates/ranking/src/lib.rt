@@ -87,7 +87,7 @@ pub fn weak_order_count_with(n: usize, k: usize) -> u64
 
 // The ways to fill rest places with the present heights, none being missing.
 fn none_missing(rest: u64, present: u64) -> u64
-    requires { ⌜ rest + present ≤ 18 ⌝ }
+    requires { ⌜ rest + present ≤ 17 ⌝ }
     ensures { λ r. ⌜ r ≡ ways rest 0 present ⌝ }
 {
     let mut total = 1;
@@ -101,22 +101,14 @@ fn none_missing(rest: u64, present: u64) -> u64
 
 // The ways where one height is missing: the fillings by one height more, without those that do not use it.
 fn one_missing(rest: u64, present: u64) -> u64
-    requires { ⌜ rest + present ≤ 17 ⌝ }
+    requires { ⌜ rest + present ≤ 16 ⌝ }
     ensures { λ r. ⌜ r ≡ ways rest 1 present ⌝ }
 {
     none_missing(rest, present + 1) - none_missing(rest, present)
 }
 
-// The same with two missing.
-fn two_missing(rest: u64, present: u64) -> u64
-    requires { ⌜ rest + present ≤ 16 ⌝ }
-    ensures { λ r. ⌜ r ≡ ways rest 2 present ⌝ }
-{
-    one_missing(rest, present + 1) - one_missing(rest, present)
-}
-
-// The ways to fill rest places where each of the missing heights has to stand in one, and any of the present may. With three missing they
-// are a difference too. With more, some places take present heights, in so many fillings, the next takes a missing one, which is
+// The ways to fill rest places where each of the missing heights has to stand in one, and any of the present may. With two missing they
+// are a difference, as with one. With more, some places take present heights, in so many fillings, the next takes a missing one, which is
 // then present, and fewer places are left. Where more heights are missing than places are left there is no way, and none is tried.
 fn ways(rest: u64, missing: u64, present: u64) -> u64
     requires { ⌜ rest + present < 16 ⌝ }
@@ -129,10 +121,7 @@ fn ways(rest: u64, missing: u64, present: u64) -> u64
         return one_missing(rest, present);
     }
     if missing == 2 {
-        return two_missing(rest, present);
-    }
-    if missing == 3 {
-        return two_missing(rest, present + 1) - two_missing(rest, present);
+        return one_missing(rest, present + 1) - one_missing(rest, present);
     }
     let mut total = 0;
     let mut fillings = 1;

@@ -15,7 +15,6 @@ use Rattle.ranking.proofs.ways.Kinds as ways-kinds
 use Rattle.ranking.proofs.+ways.Lts-ways as lts
 use Rattle.ranking.proofs.none_missing.Reads as none-missing
 use Rattle.ranking.proofs.one_missing.Reads as one-missing
-use Rattle.ranking.proofs.two_missing.Reads as two-missing
 use Rattle.ranking.proofs.+ways.{statement}
 use Rattle.ranking.proofs.+ways.Tie.{close}
 
@@ -31,10 +30,6 @@ Inv-loop rest missing present total₀ fillings₀ left₀ total fillings left =
 abbrev μ-loop : lts.MeasureT-loop
 μ-loop rest missing present total₀ fillings₀ left₀ total fillings left = left
 
--- the places passed, with one more
-passed : (r l : ℕ) → 1 ≤ l → l ≤ r → r - l + 1 ≡ r - (l - 1)
-passed r l pos le = omega arith
-
 -- calls with t places left may count on calls with fewer
 module _ (t : ℕ) where
   abbrev at : In 0 ways-kinds.ps
@@ -46,28 +41,26 @@ module _ (t : ℕ) where
     none-missing.Learnt,
     one-missing.Asked,
     one-missing.Learnt,
-    two-missing.Asked,
-    two-missing.Learnt,
     and 0 ways-kinds.ps (falls 0 ways-kinds.ps _<_ μ t) ways.Pre,
     ways.Post,
   )
 
-  -- what is left of the ways with two missing and one height more
-  three : (c : lts.After-two-missing3 claims at ways.Post Inv-loop μ-loop) →
-      let a = c .before .before .before .before .before .before .args in
-      c .before .two-missing2 .result ≡ waysTo (a .rest) 3 (a .present) + c .two-missing3 .result
-  three c =
-      let a = c .before .before .before .before .before .before .args in
-      omega (arith, c .before .two-missing2 .ensures, c .two-missing3 .ensures, ways-one-more (a .rest) 2 (a .present))
+  -- what is left of the ways with one missing and one height more
+  two : (c : lts.After-one-missing3 claims at ways.Post Inv-loop μ-loop) →
+      let a = c .before .before .before .before .before .args in
+      c .before .one-missing2 .result ≡ waysTo (a .rest) 2 (a .present) + c .one-missing3 .result
+  two c =
+      let a = c .before .before .before .before .before .args in
+      omega (arith, c .before .one-missing2 .ensures, c .one-missing3 .ensures, ways-one-more (a .rest) 1 (a .present))
 
   -- one place more is passed
   next : (c : lts.After-ways claims at ways.Post Inv-loop μ-loop) →
-      let a = c .before .before .before .before .before .before .before .args in
+      let a = c .before .before .before .before .before .before .args in
       let l = c .before .before .loop in
       l .total + l .fillings * a .missing * c .ways .result + l .fillings * a .present * waysTo (l .left - 1) (a .missing) (a .present)
       ≡ waysTo (a .rest) (a .missing) (a .present)
   next c =
-      let a = c .before .before .before .before .before .before .before .args in
+      let a = c .before .before .before .before .before .before .args in
       let l = c .before .before .loop in
       omega (
         arith,
@@ -77,13 +70,13 @@ module _ (t : ℕ) where
       )
 
   more : (c : lts.After-ways claims at ways.Post Inv-loop μ-loop) →
-      let a = c .before .before .before .before .before .before .before .args in
+      let a = c .before .before .before .before .before .before .args in
       let l = c .before .before .loop in
       l .fillings * a .present ≡ waysTo (a .rest - (l .left - 1)) 0 (a .present)
   more c =
-      let a = c .before .before .before .before .before .before .before .args in
+      let a = c .before .before .before .before .before .before .args in
       let l = c .before .before .loop in
-      let e : a .rest - l .left + 1 ≡ a .rest - (l .left - 1) = passed (a .rest) (l .left) (omega arith) (l .inv .0) in
+      let e : a .rest - l .left + 1 ≡ a .rest - (l .left - 1) = omega arith in
       ap (_* a .present) (l .inv .1) ∙ ways-none-missing (a .rest - l .left) (a .present) ∙ ap (λ r. waysTo r 0 (a .present)) e
 
   all-fit : (s : lts.Start claims at ways.Post Inv-loop μ-loop) → waysTo (s .args .rest) (s .args .missing) (s .args .present) ≤ most
@@ -105,35 +98,27 @@ module _ (t : ℕ) where
       let a = c .before .before .before .args in
       c .one-missing .ensures ∙ ap (λ m. waysTo (a .rest) m (a .present)) (sym (c .before .if2 .taken))
 
-  two-missing-requires : lts.Need-two-missing-requires claims at ways.Post Inv-loop μ-loop
-  two-missing-requires c κs = search needs
+  add-one-missing : lts.Need-add-one-missing claims at ways.Post Inv-loop μ-loop
+  add-one-missing c = search needs
+
+  one-missing-requires-2 : lts.Need-one-missing-requires-2 claims at ways.Post Inv-loop μ-loop
+  one-missing-requires-2 c κs = search needs
+
+  one-missing-requires-3 : lts.Need-one-missing-requires-3 claims at ways.Post Inv-loop μ-loop
+  one-missing-requires-3 c κs = search needs
+
+  sub-result : lts.Need-sub-result claims at ways.Post Inv-loop μ-loop
+  sub-result c = omega (arith, two c)
 
   returns-3 : lts.Need-returns-3 claims at ways.Post Inv-loop μ-loop
   returns-3 c =
-      let a = c .before .before .before .before .args in
-      c .two-missing .ensures ∙ ap (λ m. waysTo (a .rest) m (a .present)) (sym (c .before .if3 .taken))
-
-  add-two-missing : lts.Need-add-two-missing claims at ways.Post Inv-loop μ-loop
-  add-two-missing c = search needs
-
-  two-missing-requires-2 : lts.Need-two-missing-requires-2 claims at ways.Post Inv-loop μ-loop
-  two-missing-requires-2 c κs = search needs
-
-  two-missing-requires-3 : lts.Need-two-missing-requires-3 claims at ways.Post Inv-loop μ-loop
-  two-missing-requires-3 c κs = search needs
-
-  sub-result : lts.Need-sub-result claims at ways.Post Inv-loop μ-loop
-  sub-result c = omega (arith, three c)
-
-  returns-4 : lts.Need-returns-4 claims at ways.Post Inv-loop μ-loop
-  returns-4 c =
-      let a = c .before .before .before .before .before .before .args in
-      omega (arith, three c, ap (λ m. waysTo (a .rest) m (a .present)) (c .before .before .if4 .taken))
+      let a = c .before .before .before .before .before .args in
+      omega (arith, two c, ap (λ m. waysTo (a .rest) m (a .present)) (c .before .before .if3 .taken))
 
   loop-holds : lts.Need-loop-holds claims at ways.Post Inv-loop μ-loop
   unfolding waysTo
   loop-holds c =
-      let a = c .before .before .before .before .args in
+      let a = c .before .before .before .args in
       let e : a .rest - a .rest ≡ 0 = omega arith in
       (omega arith, sym (ap (λ r. waysTo r 0 (a .present)) e), omega arith)
 
@@ -142,9 +127,9 @@ module _ (t : ℕ) where
 
   mul-total : lts.Need-mul-total claims at ways.Post Inv-loop μ-loop
   mul-total c =
-      let a = c .before .before .before .before .before .before .args in
+      let a = c .before .before .before .before .before .args in
       let l = c .before .loop in
-      let h = c .before .before .before .before .before .before .pre .1 in
+      let h = c .before .before .before .before .before .pre .1 in
       let f = ways-small (a .rest - l .left) 0 (a .present) (omega arith) in
       let h : a .missing ≤ 16 = omega arith in
       record { fits = omega (arith, f, l .inv .1, mul-le-mul-left (l .fillings) h) }
@@ -159,15 +144,15 @@ module _ (t : ℕ) where
   ways-requires c κs = search needs
 
   mul-total-2 : lts.Need-mul-total-2 claims at ways.Post Inv-loop μ-loop
-  mul-total-2 c = record { fits = omega (arith, next c, all-fit (c .before .before .before .before .before .before .before)) }
+  mul-total-2 c = record { fits = omega (arith, next c, all-fit (c .before .before .before .before .before .before)) }
 
   add-total : lts.Need-add-total claims at ways.Post Inv-loop μ-loop
-  add-total c = record { fits = omega (arith, next c, all-fit (c .before .before .before .before .before .before .before)) }
+  add-total c = record { fits = omega (arith, next c, all-fit (c .before .before .before .before .before .before)) }
 
   mul-fillings : lts.Need-mul-fillings claims at ways.Post Inv-loop μ-loop
   mul-fillings c =
-      let a = c .before .before .before .before .before .before .before .args in
-      let h = c .before .before .before .before .before .before .before .pre .1 in
+      let a = c .before .before .before .before .before .before .args in
+      let h = c .before .before .before .before .before .before .pre .1 in
       let r = a .rest - (c .before .before .loop .left - 1) in
       rw (more c) (record { fits = omega (arith, ways-small r 0 (a .present) (omega arith)) })
 
@@ -177,9 +162,9 @@ module _ (t : ℕ) where
   loop-again : lts.Need-loop-again claims at ways.Post Inv-loop μ-loop
   loop-again c = (omega arith, more c, next c)
 
-  returns-5 : lts.Need-returns-5 claims at ways.Post Inv-loop μ-loop
-  returns-5 c =
-      let a = c .before .before .before .before .before .before .args in
+  returns-4 : lts.Need-returns-4 claims at ways.Post Inv-loop μ-loop
+  returns-4 c =
+      let a = c .before .before .before .before .before .args in
       let l = c .before .loop in
       let z = ways-none (l .left) (a .missing) (a .present) (search needs) in
       omega (arith, l .inv .2, ap (l .fillings *_) z)
@@ -190,13 +175,11 @@ pub +ways-spec : {M : Type 1} → statement M
     (returns t)
     (one-missing-requires t)
     (returns-2 t)
-    (two-missing-requires t)
-    (returns-3 t)
-    (add-two-missing t)
-    (two-missing-requires-2 t)
-    (two-missing-requires-3 t)
+    (add-one-missing t)
+    (one-missing-requires-2 t)
+    (one-missing-requires-3 t)
     (sub-result t)
-    (returns-4 t)
+    (returns-3 t)
     (loop-holds t)
     (sub-left t)
     (mul-total t)
@@ -208,4 +191,4 @@ pub +ways-spec : {M : Type 1} → statement M
     (mul-fillings t)
     (loop-less t)
     (loop-again t)
-    (returns-5 t)
+    (returns-4 t)

@@ -4,7 +4,7 @@ use Prim.Native.Nat.{_+_, _≤_, _-_, _*_}
 use native.Mathlib.Omega.{arith}
 use Rattle.ranking.specs.Counts.{ways}
 use Rattle.ranking.proofs.CountLaws.{ways-none-missing}
-use Rattle.ranking.proofs.Size.{ways-wide}
+use Rattle.ranking.proofs.Size.{ways-small}
 use borrow.Author.Needs.{needs}
 use Rattle.ranking.proofs.none_missing.Statement.{statement}
 use Rattle.ranking.proofs.none_missing.Tie as tie
@@ -23,7 +23,7 @@ mul-total : tie.Need-mul-total Inv-loop μ-loop
 mul-total c =
     let p = c .before .before .args .present in
     let k = c .before .loop .places in
-    rw (c .before .loop .inv .1) (record { fits = omega (arith, ways-none-missing k p, ways-wide (k + 1) 0 p (omega arith)) })
+    rw (c .before .loop .inv .1) (record { fits = omega (arith, ways-none-missing k p, ways-small (k + 1) 0 p (omega arith)) })
 
 add-places : tie.Need-add-places Inv-loop μ-loop
 add-places c = search needs
