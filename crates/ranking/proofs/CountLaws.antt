@@ -87,6 +87,12 @@ waysFrom-next r m p = elim (decLe m r) [
   | no l ↦ omega (arith, ways-none r m p (omega arith), waysFrom-none r m p (omega arith), waysFrom-none r (suc m) p (omega arith))
 ]
 
+-- a loop that adds them up from above, at m
+pub waysFrom-less : (r m p : ℕ) → 0 < m → waysFrom r m p + ways r (m - 1) p ≡ waysFrom r (m - 1) p
+waysFrom-less r m p h =
+    let e : suc (m - 1) ≡ m = omega arith in
+    omega (arith, waysFrom-next r (m - 1) p, ap (λ m. waysFrom r m p) e)
+
 -- one more height is allowed
 pub waysFrom-split : (r m p : ℕ) → waysFrom r m (suc p) ≡ waysFrom r (suc m) p + waysFrom r m p
 waysFrom-split r m p = from (suc r) m (omega arith)

@@ -29,48 +29,6 @@ pub fn weak_order_count(n: usize) -> u64
     counts[n]
 }
 
-// L(n, 0) to L(n, 16), read off the table.
-fn row_of(counts: &[u64; 289], n: usize) -> [u64; 17]
-    requires { ⌜ (n ≤ 16) × (isCountTable (now counts) ≡ true) ⌝ }
-    ensures { λ r. ⌜ Entries r (L n) 17 ⌝ }
-{
-    let mut entries = [0u64; 17];
-    let mut k: usize = 0;
-    while k < 17 {
-        entries[k] = counts[n * 17 + k];
-        k += 1;
-    }
-    entries
-}
-
-// The same, each row by its number: what is read is then known to the compiler, which keeps it in read-only data and builds no table on
-// the stack.
-fn row(n: usize) -> [u64; 17]
-    requires { ⌜ n ≤ 16 ⌝ }
-    ensures { λ r. ⌜ Entries r (L n) 17 ⌝ }
-{
-    let counts = tables::by_symbols();
-    match n {
-        0 => row_of(&counts, 0),
-        1 => row_of(&counts, 1),
-        2 => row_of(&counts, 2),
-        3 => row_of(&counts, 3),
-        4 => row_of(&counts, 4),
-        5 => row_of(&counts, 5),
-        6 => row_of(&counts, 6),
-        7 => row_of(&counts, 7),
-        8 => row_of(&counts, 8),
-        9 => row_of(&counts, 9),
-        10 => row_of(&counts, 10),
-        11 => row_of(&counts, 11),
-        12 => row_of(&counts, 12),
-        13 => row_of(&counts, 13),
-        14 => row_of(&counts, 14),
-        15 => row_of(&counts, 15),
-        _ => row_of(&counts, 16),
-    }
-}
-
 // L(n, k), the weak orders of n with exactly k different symbols; 0 outside the table.
 pub fn weak_order_count_with(n: usize, k: usize) -> u64
     ensures { λ r. ⌜ r ≡ cond (leb n 16 && leb k 16) (L n k) 0 ⌝ }
@@ -81,8 +39,8 @@ pub fn weak_order_count_with(n: usize, k: usize) -> u64
     if 16 < k {
         return 0;
     }
-    let entries = row(n);
-    entries[k]
+    let counts = tables::by_symbols();
+    counts[n * 17 + k]
 }
 
 // The ways to fill rest places with the present heights, none being missing.
@@ -134,18 +92,48 @@ fn ways(rest: u64, missing: u64, present: u64) -> u64
     total
 }
 
-// For each m up to 16: the ways to fill n places with m or more missing heights, none being present. They are sums over a row of the table.
+// L(n, m) + … + L(n, 16) for each m up to 16, read off the table: the ways to fill n places with m or more missing heights, none being
+// present.
+fn row_sums_of(counts: [u64; 289], n: usize) -> [u64; 17]
+    requires { ⌜ (n ≤ 16) × (isCountTable counts ≡ true) ⌝ }
+    ensures { λ r. ⌜ Entries r (λ m. waysFrom n m 0) 17 ⌝ }
+{
+    let mut sums = [0u64; 17];
+    let mut total = 0;
+    let mut m: usize = 17;
+    while 0 < m {
+        m -= 1;
+        total += counts[n * 17 + m];
+        sums[m] = total;
+    }
+    sums
+}
+
+// The same, each row by its number: so the compiler knows what is read, keeps it in read-only data and builds no table on the stack.
 fn row_sums(n: usize) -> [u64; 17]
     requires { ⌜ n ≤ 16 ⌝ }
     ensures { λ r. ⌜ Entries r (λ m. waysFrom n m 0) 17 ⌝ }
 {
-    let mut sums = row(n);
-    let mut m: usize = 16;
-    while 0 < m {
-        m -= 1;
-        sums[m] += sums[m + 1];
+    let counts = tables::by_symbols();
+    match n {
+        0 => row_sums_of(counts, 0),
+        1 => row_sums_of(counts, 1),
+        2 => row_sums_of(counts, 2),
+        3 => row_sums_of(counts, 3),
+        4 => row_sums_of(counts, 4),
+        5 => row_sums_of(counts, 5),
+        6 => row_sums_of(counts, 6),
+        7 => row_sums_of(counts, 7),
+        8 => row_sums_of(counts, 8),
+        9 => row_sums_of(counts, 9),
+        10 => row_sums_of(counts, 10),
+        11 => row_sums_of(counts, 11),
+        12 => row_sums_of(counts, 12),
+        13 => row_sums_of(counts, 13),
+        14 => row_sums_of(counts, 14),
+        15 => row_sums_of(counts, 15),
+        _ => row_sums_of(counts, 16),
     }
-    sums
 }
 
 // The same of rest places, any height present being allowed. No m above rest finds room. The numbers are put where the caller keeps them:

@@ -1,11 +1,11 @@
 -- `ranking::ways_from` meets its contract. The loop's invariant: the total is the ways with m or more, each entry from m on is such a
 -- total, and those above rest are 0, as they have to be. Assumes nothing.
 use mathlib.Core.Path.{_≡_, refl, sym, ap, _∙_}
-use Prim.Native.Nat.{ℕ, suc, _+_, _-_, _≤_, _<_}
+use Prim.Native.Nat.{ℕ, _+_, _-_, _≤_, _<_}
 use native.Mathlib.Omega.{arith}
 use lib.ListN.{length, getD, getD-replicate}
 use Rattle.ranking.specs.Counts.{waysFrom}
-use Rattle.ranking.proofs.CountLaws.{waysFrom-none, waysFrom-next}
+use Rattle.ranking.proofs.CountLaws.{waysFrom-none, waysFrom-less}
 use Rattle.ranking.proofs.Size.{waysFrom-small}
 use Rattle.ranking.proofs.Tabled.{entries-set}
 use borrow.Author.Needs.{needs}
@@ -57,14 +57,7 @@ next : (c : tie.After-ways Inv-loop μ-loop) →
 next c =
     let a = c .before .before .before .before .before .args in
     let l = c .before .before .loop in
-    let e : suc (l .m - 1) ≡ l .m = omega arith in
-    omega (
-      arith,
-      c .ways .ensures,
-      l .inv .1,
-      waysFrom-next (a .rest) (l .m - 1) (a .present),
-      ap (λ m. waysFrom (a .rest) m (a .present)) e,
-    )
+    omega (arith, c .ways .ensures, l .inv .1, waysFrom-less (a .rest) (l .m) (a .present) (omega arith))
 
 add-total : tie.Need-add-total Inv-loop μ-loop
 add-total c =
