@@ -15,12 +15,18 @@ shows() { # shows NAME INDENT: the text on standard input, indented so, stands i
   esac
 }
 look() { # look NAME COMMAND: the README shows what the command prints, indented
-  eval "$2" >"$room/printed" && shows "$1" "    " <"$room/printed"
+  if eval "$2" >"$room/printed"; then
+    shows "$1" "    " <"$room/printed"
+  else
+    echo "README: cannot look for $1" && status=1
+  fi
 }
 runs() { # runs NAME COMMAND: the README shows the command, and it prints or leaves something
   printf '%s\n' "$2" | shows "$1" "    "
-  (cd "$room" && rm -f saved.txt && eval "$2") >"$room/printed" 2>&1
-  cat "$room/printed" "$room/saved.txt" 2>/dev/null | grep -q . || { echo "README: $1 does nothing" && status=1; }
+  (cd "$room" && rm -f saved.txt && eval "$2") >"$room/printed" 2>"$room/errors"
+  if [ -s "$room/errors" ] || ! cat "$room/printed" "$room/saved.txt" 2>/dev/null | grep -q .; then
+    echo "README: $1 does nothing, or says: $(cat "$room/errors")" && status=1
+  fi
 }
 room=$(mktemp -d)
 trap 'rm -rf "$room"' EXIT
