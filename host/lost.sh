@@ -1,5 +1,5 @@
 #!/bin/sh
-# Nothing is lost silently: what round and replay could not read or write, they say in one line on standard error; else they say nothing.
+# Nothing is lost silently: what round and replay could not read or write, they say in one line on standard error; of a good run they say nothing.
 set -u
 # replay is no target of the Makefile
 rt check replay >target/replay.log 2>&1 || { tail -n 20 target/replay.log && exit 1; }
