@@ -4,7 +4,7 @@ CFLAGS = -std=c11 -O2 -Wall -Wextra -D_DEFAULT_SOURCE
 LIB = target/staticlib/libwko.a
 HEADERS = include/wko.h include/wko_frames.h
 SOURCES := crates.txt $(shell find crates -name '*.rt' -o -name '*.antt')
-EXAMPLES = target/host/example target/host/link
+EXAMPLES = target/host/example target/host/link target/host/fill
 TESTS = target/host/test_calls target/host/test_session target/host/stack
 MODELS = target/host/replay_records target/host/sheet_answers
 
@@ -60,7 +60,7 @@ install: $(LIB)
 uninstall:
 	@rm -f $(addprefix $(to),$(INSTALLED))
 
-## make host                    builds the README's two bench hosts: direct calls, and frames over a link that loses some
+## make host                    builds the README's bench hosts: direct calls, frames over a link that loses some, and a start window from a pattern
 host: $(EXAMPLES)
 	@echo "bench hosts: $(EXAMPLES)"
 
@@ -70,10 +70,12 @@ $(EXAMPLES) target/host/tables: target/host/%: host/%.c $(HEADERS) $(LIB)
 
 ## make host-test               the host tests alone, on the library as it is built
 host-test: $(TESTS) $(MODELS) $(EXAMPLES) target/host/tables target/host/print_round target/bin/round
-	@for t in $(notdir $(EXAMPLES)); do target/host/$$t | cmp - host/$$t.out || exit 1; done
+	@for t in example link; do target/host/$$t | cmp - host/$$t.out || exit 1; done
+	@target/host/fill >target/host/fill.log || { cat target/host/fill.log; exit 1; } # which start it prints is free
 	@host/readme.sh
 	@host/headers.sh
 	@host/trace.sh
+	@host/sealed.sh
 	@host/stored.sh
 	@host/rounds.sh
 	@host/install.sh

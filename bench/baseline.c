@@ -304,3 +304,44 @@ uint32_t baseline_window_at(uint64_t n, uint64_t place, uint8_t *out, size_t out
     window_at((int)n, place, out);
     return 0;
 }
+
+uint32_t baseline_fill(uint64_t n, const uint8_t *pattern, size_t pattern_len, uint8_t *out, size_t out_len)
+{
+    int seen[16] = {0}, open = 0, top = 0, missing = 0, next = 0;
+    if (n < 1 || n > 16)
+        return 256 + 6;
+    if (out_len < n)
+        return 256 + 1;
+    if (pattern_len != n)
+        return 256 + 8;
+    for (uint64_t i = 0; i < n; i++) {
+        if (pattern[i] == 255) {
+            open++;
+            continue;
+        }
+        if (pattern[i] >= n)
+            return 256 + 8;
+        seen[pattern[i]] = 1;
+        if (pattern[i] + 1 > top)
+            top = pattern[i] + 1;
+    }
+    for (int v = 0; v < top; v++)
+        missing += !seen[v];
+    if (missing > open)
+        return 256 + 15;
+    for (uint64_t i = 0; i < n; i++) {
+        out[i] = pattern[i];
+        if (pattern[i] != 255)
+            continue;
+        out[i] = 0;
+        if (missing == open) { /* the missing heights in order, as soon as each place is needed for one */
+            while (seen[next])
+                next++;
+            out[i] = (uint8_t)next;
+        }
+        missing -= top > 0 && !seen[out[i]];
+        seen[out[i]] = 1;
+        open--;
+    }
+    return 0;
+}

@@ -19,4 +19,7 @@ uint32_t baseline_rule1_looking(uint64_t n, uint64_t rule, const uint8_t *window
 /* What wko_place and wko_window_at answer, with the same tests, by the library's own algorithm: a recursive count of completions. */
 uint32_t baseline_place(uint64_t n, const uint8_t *window, size_t window_len, uint8_t *out, size_t out_len);
 uint32_t baseline_window_at(uint64_t n, uint64_t place, uint8_t *out, size_t out_len);
+
+/* What wko_fill answers today, with the same tests: counted once, and filled in one pass. */
+uint32_t baseline_fill(uint64_t n, const uint8_t *pattern, size_t pattern_len, uint8_t *out, size_t out_len);
 #endif

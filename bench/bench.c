@@ -9,6 +9,8 @@ uint32_t walk(size_t n, uint8_t rule, const uint8_t *window, size_t window_len, 
 
 enum { RUNS = 9, MOST_PLACES = 5000 };
 
+static const uint64_t WINDOWS[17] = {[8] = 545835, [12] = 28091567595, [16] = 5315654681981355};
+
 /* The processor time of this process: other work on the machine is left out. */
 static double now(void)
 {
@@ -143,7 +145,6 @@ static uint64_t random64(void)
 /* The same random windows both ways, there and back. */
 static void places(int n, int count)
 {
-    static const uint64_t a[17] = {[8] = 545835, [12] = 28091567595, [16] = 5315654681981355};
     static uint64_t at[MOST_PLACES];
     static uint8_t w[MOST_PLACES][16], v[MOST_PLACES][16], by_c[MOST_PLACES][8], bytes[MOST_PLACES][8];
     double place_c = 1e9, place_ours = 1e9, window_c = 1e9, window_ours = 1e9;
@@ -151,7 +152,7 @@ static void places(int n, int count)
     memset(w, 0, sizeof w);
     memset(v, 0, sizeof v);
     for (int k = 0; k < count; k++)
-        at[k] = random64() % a[n];
+        at[k] = random64() % WINDOWS[n];
     for (int run = 0; run < RUNS; run++) {
         double t = now();
         for (int k = 0; k < count; k++)
@@ -176,6 +177,32 @@ static void places(int n, int count)
            window_ours / window_c, differ ? "   THE ANSWERS DIFFER" : "");
 }
 
+/* The same random patterns: weak orders with about half of their places opened. */
+static void patterns(int n, int count)
+{
+    static uint8_t p[MOST_PLACES][16], by_c[MOST_PLACES][16], w[MOST_PLACES][16];
+    double c = 1e9, ours = 1e9;
+    unsigned differ = 0;
+    for (int k = 0; k < count; k++) {
+        baseline_window_at((uint64_t)n, random64() % WINDOWS[n], p[k], 16);
+        for (int i = 0; i < n; i++)
+            if (random64() % 2)
+                p[k][i] = WKO_OPEN;
+    }
+    for (int run = 0; run < RUNS; run++) {
+        double t = now();
+        for (int k = 0; k < count; k++)
+            baseline_fill((uint64_t)n, p[k], (size_t)n, by_c[k], 16);
+        t = keep_best(&c, t);
+        for (int k = 0; k < count; k++)
+            wko_fill((uint64_t)n, p[k], (size_t)n, w[k], 16);
+        keep_best(&ours, t);
+        differ += memcmp(w, by_c, sizeof w) != 0;
+    }
+    printf("n = %2d   C %6.1f ns, wko_fill %6.1f ns (%.2f of C)%s\n", n, 1e9 * c / count, 1e9 * ours / count, ours / c,
+           differ ? "   THE ANSWERS DIFFER" : "");
+}
+
 int main(void)
 {
     printf("One step along the cycle, in a loop of steps and as a call; each tests n, the rule and the window's form.\n");
@@ -191,5 +218,8 @@ int main(void)
     printf("\nThe place of a random height window, and the window at a random place.\n");
     for (int n = 8; n <= 16; n += 4)
         places(n, n == 16 ? 500 : 5000);
+    printf("\nA weak order for a pattern, half of its places open.\n");
+    for (int n = 8; n <= 16; n += 4)
+        patterns(n, 5000);
     return 0;
 }

@@ -9,7 +9,7 @@ printf '#include "wko_frames.h"\n#include "wko.h"\n' >"$room/headers.c" # each i
 tried=
 compile() { # compile COMPILER...: the headers and the examples, one by one
   command -v "$1" >/dev/null || { echo "headers: no $1 here" && return; }
-  for file in "$room/headers.c" host/example.c host/link.c host/tables.c; do
+  for file in "$room/headers.c" host/example.c host/link.c host/fill.c host/tables.c; do
     # shellcheck disable=SC2086 # the flags are several words
     "$@" $flags -c -o "$room/object" "$file"
   done

@@ -43,6 +43,7 @@ look "the counts (make tables)" 'target/host/tables counts'
 look "the refusals (make tables)" 'target/host/tables refusals'
 look "the bytes of frames, as wko.h has them" "sed -n '/^ \*   bytes /,/^ \*\$/s/^ \*   //p' include/wko.h"
 look "what host/link.c prints" 'target/host/link'
+look "the pattern of host/fill.c" "sed -n '/const uint8_t pattern/,/wko_fill/s/^    //p' host/fill.c"
 look "what is to be believed (make trust)" 'tools/trust.sh'
 look "the contract of wko_next_symbol" "grep -A 1 'fn wko_next_symbol' crates/wko/src/lib.rt"
 look "the definition judged" "sed -n '/^judged rule n w =/,/^\$/p' crates/successors/specs/NextSymbol.antt"

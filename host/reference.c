@@ -1,4 +1,4 @@
-/* Document 01 and 002 in plain C, as they are written: no thought of speed, no shared code with the library. */
+/* Documents 01, 02 and 002 in plain C, as they are written: no thought of speed, no shared code with the library. */
 #include "reference.h"
 #include <string.h>
 
@@ -247,6 +247,50 @@ void ref_window_at(int n, uint64_t place, uint8_t *out)
             place -= c;
         }
     }
+}
+
+int ref_is_pattern(const uint8_t *p, int n)
+{
+    for (int i = 0; i < n; i++)
+        if (p[i] != 255 && p[i] >= n)
+            return 0;
+    return 1;
+}
+
+int ref_agrees(const uint8_t *p, const uint8_t *w, int n)
+{
+    for (int i = 0; i < n; i++)
+        if (p[i] != 255 && p[i] != w[i])
+            return 0;
+    return 1;
+}
+
+/* Some weak order has the fixed bytes of p, and the first i symbols of w. */
+static int fillable_from(const uint8_t *p, uint8_t *w, int i, int n)
+{
+    if (i == n)
+        return ref_is_height(w, n);
+    for (int v = 0; v < n; v++) {
+        w[i] = (uint8_t)v;
+        if ((p[i] == 255 || p[i] == v) && fillable_from(p, w, i + 1, n))
+            return 1;
+    }
+    return 0;
+}
+
+int ref_fillable_by_trying(const uint8_t *p, int n)
+{
+    uint8_t w[16];
+    return fillable_from(p, w, 0, n);
+}
+
+int ref_fillable_by_counting(const uint8_t *p, int n)
+{
+    int top = 0;
+    for (int i = 0; i < n; i++)
+        if (p[i] != 255 && p[i] + 1 > top)
+            top = p[i] + 1;
+    return top - different_below(p, n, top) <= num(p, n, 255);
 }
 
 int ref_setting_ok(int n, long top, long spacing)

@@ -1,4 +1,5 @@
-/* An independent implementation of document 01 in plain C, written from the papers, for the host tests and the benchmarks. */
+/* An independent implementation of document 01, and of what document 02 adds, in plain C, written from the papers, for the host tests and the
+ * benchmarks. */
 #ifndef REFERENCE_H
 #define REFERENCE_H
 #include <stdint.h>
@@ -13,6 +14,13 @@ void ref_step(int rule, uint8_t *w, int n);
 uint64_t ref_count(int n);
 uint64_t ref_place(const uint8_t *w, int n);
 void ref_window_at(int n, uint64_t place, uint8_t *out);
+
+/* Patterns in height form, 255 for an open place: whether p is one, whether w has its fixed bytes, and whether some weak order has, by trying
+ * all of them (for small n), and by counting the missing heights. */
+int ref_is_pattern(const uint8_t *p, int n);
+int ref_agrees(const uint8_t *p, const uint8_t *w, int n);
+int ref_fillable_by_trying(const uint8_t *p, int n);
+int ref_fillable_by_counting(const uint8_t *p, int n);
 
 /* Whether a level setting passes test 9, and the level of a symbol. */
 int ref_setting_ok(int n, long top, long spacing);

@@ -7,7 +7,7 @@
 
 enum { SIZE = 1 << 14, MOST = 1500, ROUNDS = 3000 };
 
-static uint8_t stack[SIZE], ranks[16], heights[16], out[40], frame[40];
+static uint8_t stack[SIZE], ranks[16], heights[16], pattern[16], out[40], frame[40];
 static uint64_t place;
 static struct wko_exchanged state;
 static ucontext_t here, there;
@@ -21,6 +21,7 @@ static void height_to_rank(void) { wko_height_to_rank(16, heights, 16, out, 16);
 static void count(void) { wko_count(16, out, 8); }
 static void place_of(void) { wko_place(16, heights, 16, out, 8); }
 static void window_at(void) { wko_window_at(16, place, out, 16); }
+static void fill(void) { wko_fill(16, pattern, 16, out, 16); }
 static void fresh(void) { state.session = wko_fresh(); }
 static void exchange(void) { state = wko_exchange(state.session, frame, 40, out, 40); }
 
@@ -40,7 +41,7 @@ static size_t used(void (*call)(void))
     return sizeof stack - free_bytes;
 }
 
-/* Another window, place and frame: with few ties or many, all alike, all different; begin, step and query in turn. */
+/* Another window, pattern, place and frame: with few ties or many, all alike, all different; begin, step and query in turn. */
 static void prepare(int round)
 {
     const struct wko_setting setting = {0, 100};
@@ -48,6 +49,8 @@ static void prepare(int round)
     for (int i = 0; i < 16 && round % 8 < 3; i++)
         heights[i] = (uint8_t)(round % 8 == 0 ? 0 : round % 8 == 1 ? i : 15 - i);
     ref_ranks(heights, 16, ranks);
+    for (int i = 0; i < 16; i++)
+        pattern[i] = random_below(4) < (uint64_t)round % 5 ? WKO_OPEN : heights[i];
     place = random_below(ref_count(16));
     if (round % 16 == 0)
         wko_build_begin(frame, 16, (uint8_t)(1 + round / 16 % 3), setting, round / 16 % 3 == 0 ? ranks : heights);
@@ -62,7 +65,8 @@ int main(void)
     static const struct { const char *name; void (*call)(void); } calls[] = {
         {"nothing", nothing}, {"wko_next_symbol, rule 1", next_symbol_1}, {"wko_next_symbol, rule 2", next_symbol_2},
         {"wko_next_symbol, rule 3", next_symbol_3}, {"wko_rank_to_height", rank_to_height}, {"wko_height_to_rank", height_to_rank},
-        {"wko_count", count}, {"wko_place", place_of}, {"wko_window_at", window_at}, {"wko_fresh", fresh}, {"wko_exchange", exchange}};
+        {"wko_count", count}, {"wko_place", place_of}, {"wko_window_at", window_at}, {"wko_fill", fill},
+        {"wko_fresh", fresh}, {"wko_exchange", exchange}};
     enum { CALLS = sizeof calls / sizeof calls[0] };
     size_t most[CALLS] = {0};
     for (int round = 0; round < ROUNDS; round++) {

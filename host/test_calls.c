@@ -244,6 +244,100 @@ static void refusals_of_places(void)
     check_place(3, w, 3, 8);
 }
 
+/* What document 02 says of a pattern. Which weak order is written is free: it has to be one, and to agree. */
+static void check_fill(uint64_t n, const uint8_t *p, size_t len, size_t out_len)
+{
+    uint8_t *out = lend_out(out_len);
+    uint32_t want = n < 1 || n > 16                                ? 256 + 6
+                    : out_len < n                                  ? 256 + 1
+                    : len != n || !ref_is_pattern(p, (int)n)       ? 256 + 8
+                    : !ref_fillable_by_counting(p, (int)n)         ? 256 + 15
+                                                                   : 0;
+    uint32_t got = wko_fill(n, lend(p, len), len, out, out_len);
+    size_t written = want == 0 ? (size_t)n : 0;
+    CHECK(got == want, "fill, n = %llu, length %zu, buffer %zu: %u, not %u", (unsigned long long)n, len, out_len, got, want);
+    CHECK(untouched(out_page, out, written, out_len), "fill wrote beside its %zu bytes", written);
+    if (want == 0)
+        CHECK(ref_is_height(out, (int)n) && ref_agrees(p, out, (int)n), "what fill wrote for n = %llu is no filling", (unsigned long long)n);
+}
+
+/* Each pattern of n, with the byte n beside those that are allowed; gives how many patterns no weak order agrees with. */
+static int all_patterns(int n)
+{
+    uint8_t p[16] = {0};
+    int without = 0;
+    for (;;) {
+        int i = n - 1;
+        check_fill((uint64_t)n, p, (size_t)n, (size_t)n);
+        if (ref_is_pattern(p, n)) {
+            int fillable = ref_fillable_by_trying(p, n);
+            without += !fillable;
+            CHECK(ref_fillable_by_counting(p, n) == fillable, "counting and trying differ on a pattern of n = %d", n);
+        }
+        while (i >= 0 && p[i] == 255)
+            p[i--] = 0;
+        if (i < 0)
+            return without;
+        p[i] = (uint8_t)(p[i] == n ? 255 : p[i] + 1);
+    }
+}
+
+static void small_patterns(void)
+{
+    static const int without[6] = {0, 0, 1, 17, 267, 4439};
+    for (int n = 1; n <= 5; n++)
+        CHECK(all_patterns(n) == without[n], "of the patterns of n = %d not %d are without a weak order", n, without[n]);
+}
+
+/* Random weak orders with places opened, one in three with a byte changed, one in eight into a buffer or of a length that may not do. */
+static void random_patterns(long rounds)
+{
+    for (long k = 0; k < rounds; k++) {
+        int n = 1 + (int)random_below(16);
+        size_t len = (size_t)n, out_len = (size_t)n + random_below(4);
+        uint64_t opened = random_below(5);
+        uint8_t p[17] = {0};
+        ref_random_heights(random64, n, p);
+        for (int i = 0; i < n; i++)
+            if (random_below(4) < opened)
+                p[i] = 255;
+        if (random_below(3) == 0)
+            p[random_below((uint64_t)n)] = (uint8_t)random_below(k % 2 ? (uint64_t)n + 1 : 256);
+        if (random_below(8) == 0) {
+            len = (size_t)n + 1 - random_below(3);
+            out_len = random_below(18);
+        }
+        check_fill((uint64_t)n, p, len, out_len);
+    }
+}
+
+/* Every length with every buffer, for a weak order, for all places open, for a pattern that no weak order agrees with, and for one that is none. */
+static void refusals_of_fill(void)
+{
+    static const uint8_t last[4] = {0, 255, 1, 254};
+    uint8_t p[20];
+    for (size_t kind = 0; kind < sizeof last; kind++)
+        for (size_t k = 0; k < sizeof lengths / sizeof *lengths; k++)
+            for (size_t len = 0; len <= 20; len++)
+                for (size_t out_len = 0; out_len <= 18; out_len++) {
+                    memset(p, kind == 1 ? 255 : 1, sizeof p);
+                    if (len > 0)
+                        p[len - 1] = last[kind];
+                    check_fill(lengths[k], p, len, out_len);
+                }
+}
+
+/* Document 02, "third sweep on top, fifth level with it". */
+static void worked_patterns(void)
+{
+    const uint8_t service[5] = {255, 255, 0, 255, 0}, gap[3] = {0, 0, 2}, whole[3] = {2, 0, 1};
+    uint8_t out[5];
+    CHECK(wko_fill(5, service, 5, out, 5) == 0 && out[2] == 0 && out[4] == 0 && ref_is_height(out, 5), "the third and the fifth on top");
+    CHECK(wko_fill(3, gap, 3, out, 3) == 256 + 15, "0,0,2 is 15");
+    CHECK(wko_fill(3, whole, 3, out, 3) == 0 && memcmp(out, whole, 3) == 0, "a weak order is its own answer");
+    CHECK(wko_fill(0, NULL, 0, NULL, 0) == 256 + 6, "no pattern at all is 6");
+}
+
 /* Document 01, "Place". */
 static const uint8_t windows_of_3[13][3] = {{0, 0, 0}, {0, 0, 1}, {0, 1, 0}, {0, 1, 1}, {0, 1, 2}, {0, 2, 1}, {1, 0, 0},
                                             {1, 0, 1}, {1, 0, 2}, {1, 1, 0}, {1, 2, 0}, {2, 0, 1}, {2, 1, 0}};
@@ -264,10 +358,10 @@ static void conveniences(void)
 {
     CHECK(WKO_REFUSED(0) == 0 && WKO_REFUSED(16) == 0, "a symbol or 0 is no refusal");
     CHECK(WKO_REFUSED(wko_count(17, NULL, 0)) == WKO_WINDOW_LENGTH, "a refusal of a direct call has its number");
-    for (uint32_t i = 0; i <= 15; i++)
+    for (uint32_t i = 0; i <= 16; i++)
         for (uint32_t j = 0; j < i; j++)
             CHECK(strcmp(wko_refusal_text(i), wko_refusal_text(j)) != 0, "refusals %u and %u have the same text", i, j);
-    CHECK(wko_refusal_text(15) == wko_refusal_text(UINT32_MAX), "there are 14 refusals");
+    CHECK(wko_refusal_text(16) == wko_refusal_text(UINT32_MAX), "there are 15 refusals");
 }
 
 int main(void)
@@ -290,5 +384,9 @@ int main(void)
     for (int n = 1; n <= 6; n++)
         all_places(n);
     some_places(100);
+    worked_patterns();
+    small_patterns();
+    refusals_of_fill();
+    random_patterns(200000);
     return report("direct calls");
 }

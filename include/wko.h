@@ -17,9 +17,10 @@
 #include <stddef.h>
 #include <stdint.h>
 
-#define WKO_LIBRARY_VERSION "1.1.0"
+#define WKO_LIBRARY_VERSION "1.2.0"
 #define WKO_MAX_N 16     /* symbols of the longest window */
 #define WKO_FRAME_LEN 40 /* bytes of a frame, and of its answer */
+#define WKO_OPEN 255     /* an open place of a pattern */
 
 /* Why a call, a frame or a sheet is refused; wko_refusal_text has each in words. */
 enum wko_refusal {
@@ -36,7 +37,8 @@ enum wko_refusal {
     WKO_STEP_NUMBER = 11,
     WKO_ROUND_FINISHED = 12,
     WKO_NO_SUCH_PLACE = 13,
-    WKO_SHEET_MALFORMED = 14
+    WKO_SHEET_MALFORMED = 14,
+    WKO_NO_FILLING = 15
 };
 
 /* A refusal in words; 0 is none. */
@@ -51,13 +53,14 @@ static inline const char *wko_refusal_text(uint32_t number)
         "a byte of the frame that must be zero is not",
         "n is out of range",
         "the rule is not 1, 2 or 3",
-        "the window is no weak order of n in the form that is asked for",
+        "the window is no weak order of n in the form that is asked for, or the pattern is none of n",
         "the level setting is out of range",
         "no round has begun",
         "the step number is neither the next one nor the last one again",
         "the round is finished",
         "the place is not below a(n)",
         "the sheet is malformed",
+        "no weak order of n agrees with the pattern",
     };
     return number < sizeof texts / sizeof texts[0] ? texts[number] : "no refusal has this number";
 }
@@ -79,9 +82,12 @@ extern "C" {
  *   257 (1)   the buffer is too short
  *   262 (6)   n is not 1 to 16
  *   263 (7)   the rule is not 1, 2 or 3
- *   264 (8)   the window is not n long, or no weak order of n in the form that the call takes
+ *   264 (8)   the window is not n long, or no weak order of n in the form that the call takes;
+ *             the pattern is not n long, or has a byte that is neither 255 nor below n
  *   269 (13)  the place is not below a(n)
- * The tests are made in the order 6, 7, 1, then 8 or 13, without those that have no meaning in a call, and the first that fails decides.
+ *   271 (15)  no weak order of n agrees with the pattern
+ * The tests are made in the order 6, 7, 1, then 8 or 13, then 15, without those that have no meaning in a call, and the first that fails
+ * decides.
  * A refused call writes no byte.
  */
 
@@ -107,6 +113,12 @@ uint32_t wko_place(uint64_t n, const uint8_t *window, size_t window_len, uint8_t
 
 /* The window of n in height form at a place. Writes n bytes to the front of out, which has out_len >= n. Refusals 6, 1, 13. */
 uint32_t wko_window_at(uint64_t n, uint64_t place, uint8_t *out, size_t out_len);
+
+/* A window from a pattern: n bytes in height form, each a height below n that is fixed there, or WKO_OPEN. Height 0 is the highest level.
+ * Writes a weak order of n in height form that has every fixed byte, n bytes, to the front of out, which has out_len >= n. Which one is
+ * not promised where several agree, and may change; a pattern that is a weak order itself, with no open place, is its own answer.
+ * Refusals 6, 1, 8, 15; 15 is given just where no weak order of n agrees: 0,0,2 has no open place for the missing 1. */
+uint32_t wko_fill(uint64_t n, const uint8_t *pattern, size_t pattern_len, uint8_t *out, size_t out_len);
 
 /*
  * For firmware: a session driven by frames of 40 bytes. wko_frames.h builds frames and reads answers.

@@ -18,7 +18,8 @@ for edit in crates/"$crate"/must-fail/*.edit; do
   [ -f "$edit" ] || continue
   name=$(basename "$edit" .edit)
   log=target/must-fail/$crate/$name/.log
-  error=$(grep -m 1 ': error' "$log") || error=$(grep -m 1 '^note: [^ ]*:[0-9]*:[0-9]*:' "$log") || error="no error in $log"
+  # that a caller "was not admitted" only follows from a function that is proved without a file and is not any more; the note names it
+  error=$(grep ': error' "$log" | grep -m 1 -v 'was not admitted') || error=$(grep -m 1 '^note: [^ ]*:[0-9]*:[0-9]*:' "$log") || error="no error in $log"
   printf '\n%s\n' "$name"
   printf '    %s\n' "$error" | sed -e "s|[^ ]*/must-fail/$crate/$name/||" -e 's/\(.\{240\}\).*/\1 .../'
 done

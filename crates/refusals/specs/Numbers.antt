@@ -1,9 +1,9 @@
--- Document 01's numbers of the refusals ("Turned down"), and what a direct call returns for them.
+-- The numbers of the refusals (document 01, "Turned down", and document 02), and what a direct call returns for them.
 use Prim.Native.Nat.{ℕ, _+_}
 use Rattle.refusals.specs.declared.Cause.{Cause}
 use Rattle.refusals.specs.declared.Cause.the-variants.{ShortBuffer, FrameLength, FrameHeader, FrameKind, ReservedByte}
 use Rattle.refusals.specs.declared.Cause.the-variants.{WindowLength, RuleNumber, NotWeakOrder, LevelSetting, NotBegun}
-use Rattle.refusals.specs.declared.Cause.the-variants.{StepNumber, RoundFinished, NoSuchPlace, SheetMalformed}
+use Rattle.refusals.specs.declared.Cause.the-variants.{StepNumber, RoundFinished, NoSuchPlace, SheetMalformed, NoFilling}
 use Rattle.refusals.specs.declared.Verdict.{Verdict}
 use Rattle.refusals.specs.declared.Verdict.the-variants.{Accepted, Refused}
 
@@ -22,6 +22,8 @@ causeNumber StepNumber = 11
 causeNumber RoundFinished = 12
 causeNumber NoSuchPlace = 13
 causeNumber SheetMalformed = 14
+-- document 02, Paper 1
+causeNumber NoFilling = 15
 
 -- "256 + number means refused"
 abbrev pub refusal : Cause → ℕ

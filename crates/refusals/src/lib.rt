@@ -1,9 +1,9 @@
-// Why a frame, a call or a sheet is turned down: document 01's table of refusals, once for all crates.
+// Why a frame, a call or a sheet is turned down: document 01's table of refusals with document 02's behind it, once for all crates.
 // Rests on nothing. What is left as it was is for each caller's contract to say.
 ghost use mathlib.Core.Path.{_≡_};
 ghost use Rattle.refusals.specs.Numbers.{causeNumber};
 
-// The causes in the order of document 01's table, "Turned down".
+// The causes in the order of document 01's table, "Turned down", and then those of document 02.
 pub enum Cause {
     ShortBuffer,
     FrameLength,
@@ -19,6 +19,7 @@ pub enum Cause {
     RoundFinished,
     NoSuchPlace,
     SheetMalformed,
+    NoFilling,
 }
 
 // Whether a call or a sheet is accepted. A window that goes with it stands beside it, since an enum cannot hold an array.
@@ -46,5 +47,6 @@ pub fn number(cause: Cause) -> u8
         Cause::RoundFinished => 12,
         Cause::NoSuchPlace => 13,
         Cause::SheetMalformed => 14,
+        Cause::NoFilling => 15,
     }
 }

@@ -6,21 +6,25 @@ use Prim.Native.Nat.{ℕ, _≤_, _<_}
 use native.Mathlib.Omega.{arith}
 use native.Mathlib.Decide.{decLe}
 use lib.Dec.{ltb}
-use lib.ListN.{length, take, drop}
+use lib.ListN.{length, take, drop, replicate}
 use lib.Seq.{take-length, length-take-le}
-use borrow.Author.Tests.{lt-ltb, le-ltb, ltb-false}
+use borrow.Author.Tests.{ne-eqb, lt-ltb, le-ltb, ltb-false}
 use Rattle.refusals.specs.declared.Cause.{Cause}
 use Rattle.refusals.specs.declared.Cause.the-variants.{ShortBuffer, WindowLength, RuleNumber}
 use Rattle.refusals.specs.declared.Verdict.{Verdict}
 use Rattle.refusals.specs.declared.Verdict.the-variants.{Accepted, Refused}
-use Rattle.weak_orders.specs.Converted.{judgedIn, answered, rankToHeight, heightToRank}
+use Rattle.weak_orders.specs.Converted.{judgedBy, judgedIn, answered, rankToHeight, heightToRank}
 use Rattle.weak_orders.specs.Window.{isLength, isRank, isHeight, heights, ranks, loaded}
 use Rattle.weak_orders.proofs.FormTests.{says-length, rank-low, height-low}
-use Rattle.weak_orders.proofs.Judged.{refused, loaded-judged, judged-whole, by-loaded}
+use Rattle.weak_orders.proofs.Judged.{refused, loaded-whole, loaded-judged, judged-whole, by-loaded}
 use Rattle.weak_orders.proofs.Tests.{by-test, says?, says-no}
 use Rattle.ranking.specs.Answers.{placed, numberBy, judgedPlace, located}
 use Rattle.ranking.specs.Dictionary.{place, windowAt}
 use Rattle.ranking.proofs.Answered.{place-length}
+use Rattle.filling.specs.Answers.{judgedPattern, fillAnswer}
+use Rattle.filling.specs.Filled.{filled}
+use Rattle.filling.specs.Pattern.{isPattern}
+use Rattle.filling.proofs.Verdicts.{accepted-pattern}
 use Rattle.successors.specs.declared.Next.the-variants.{Refused as NoSymbol}
 use Rattle.successors.specs.NextSymbol.{nextSymbol, symbolBy, judged}
 use Rattle.successors.specs.Rules.{isRule}
@@ -93,6 +97,18 @@ pub place-slice : (n : ℕ) (s : List ℕ) → placed n (take n (loaded n s)) �
 unfolding placed numberBy
 place-slice n s = by-loaded (judgedIn isHeight n) (λ v u. numberBy v (place u)) n s (height-judged n s) (judged-whole isHeight n s) (λ c u v. refl)
 
+-- a pattern that is n long, and one that is not
+pub fill-slice : (n : ℕ) (s : List ℕ) → length s ≡ n → fillAnswer n (take n (loaded n s)) ≡ fillAnswer n s
+unfolding fillAnswer judgedPattern answered
+fill-slice n s l = elim (says? (says-length n)) [
+  | yes h ↦ rw (loaded-whole n s (h .1) l)
+  | no h ↦ rw (says-no (says-length n) h)
+]
+
+pub fill-other : (n : ℕ) (s : List ℕ) → ¬ (length s ≡ n) → record { verdict = judgedBy n false; window = replicate 16 0 } ≡ fillAnswer n s
+unfolding fillAnswer judgedPattern isPattern judgedBy answered
+fill-other n s ne = by-test (isLength n) (λ a. rw (a, ne-eqb (length s) n ne)) (λ a. rw a)
+
 -- a rule that does not fit a byte is no rule, and neither is 0
 pub symbol-slice : (n rule : ℕ) (s : List ℕ) → nextSymbol (cond (ltb rule 256) rule 0) n (take n (loaded n s)) ≡ nextSymbol rule n s
 symbol-slice n rule s = loaded-symbol (cond (ltb rule 256) rule 0) n s ∙ by-test (ltb rule 256)
@@ -120,3 +136,7 @@ located-most n k e = place-long (sym (answered-verdict (judgedPlace n k) (window
       | yes l ↦ l .1
       | no l ↦ absurd (refused (rw (place-length n k (says-no (says-length n) l)) at e))
     ]
+
+pub fill-most : (n : ℕ) (p : List ℕ) → fillAnswer n p .verdict ≡ Accepted → n ≤ 16
+unfolding fillAnswer
+fill-most n p e = accepted-pattern n p (sym (answered-verdict _ (filled n p)) ∙ e) .0

@@ -1,4 +1,4 @@
--- What each direct call returns and leaves in the buffer, for every argument (document 01, "Turned down").
+-- What each direct call returns and leaves in the buffer, for every argument (document 01, "Turned down"; document 02, Paper 1).
 use mathlib.Core.Bool.{Bool, false, cond, not, _&&_}
 use mathlib.Core.List.{List, _++_}
 use Prim.Native.Nat.{ℕ}
@@ -14,6 +14,7 @@ use Rattle.weak_orders.specs.Converted.{rankToHeight, heightToRank}
 use Rattle.ranking.specs.declared.NumberAnswer.{NumberAnswer}
 use Rattle.ranking.specs.declared.NumberAnswer.the-variants.{Number, Refused as NoNumber}
 use Rattle.ranking.specs.Answers.{counted, placed, located}
+use Rattle.filling.specs.Answers.{fillAnswer}
 use Rattle.successors.specs.NextSymbol.{nextSymbol, nextNumber}
 use Rattle.frames.specs.Fields.{bytes64}
 use Rattle.wko.specs.declared.NumberBytes.{NumberBytes}
@@ -22,7 +23,7 @@ use Rattle.wko.specs.declared.NumberBytes.{NumberBytes}
 abbrev pub Outcome : Type 0
 Outcome = ℕ × List ℕ
 
--- "Direct calls test 6, 7, 1, then 8 or 13": 6 and 7 are told before a short buffer
+-- "Direct calls test 6, 7, 1, then 8 or 13", and 15 behind 8: 6 and 7 are told before a short buffer
 unfoldable pub toldFirst : Cause → Bool
 toldFirst cause = leb 6 (causeNumber cause) && leb (causeNumber cause) 7
 
@@ -59,7 +60,7 @@ unfoldable pub numberGiven : NumberAnswer → List ℕ → Outcome
 unfolding withRoom delivered
 numberGiven x out = delivered (withRoom 8 (length out) (numberBytes x .verdict)) (numberBytes x .bytes) out
 
--- the six calls
+-- the calls
 unfoldable pub nextSymbolCall : ℕ → ℕ → List ℕ → ℕ
 unfolding nextSymbol
 nextSymbolCall n rule w = nextNumber (nextSymbol rule n w)
@@ -83,3 +84,7 @@ windowAtCall n k = windowGiven n (located n k)
 unfoldable pub countCall : ℕ → List ℕ → Outcome
 unfolding numberGiven counted
 countCall n = numberGiven (counted n)
+
+unfoldable pub fillCall : ℕ → List ℕ → List ℕ → Outcome
+unfolding windowGiven fillAnswer
+fillCall n p = windowGiven n (fillAnswer n p)

@@ -1,5 +1,5 @@
 // The C interface: direct calls on numbers and byte slices, declared in include/wko.h.
-// A thin layer over weak_orders, ranking and successors: it loads the window, calls, and copies the answer out. The frame call for
+// A thin layer over weak_orders, ranking, filling and successors: it loads the window, calls, and copies the answer out. The frame call for
 // firmware is in the module session.
 pub mod session;
 
@@ -9,6 +9,7 @@ ghost use mathlib.Core.Path.{_≡_};
 ghost use Prim.Native.Nat.{_≤_};
 ghost use lib.Dec.{ltb};
 ghost use lib.ListN.{length, take, drop};
+ghost use Rattle.filling.specs.Answers.{fillAnswer};
 ghost use Rattle.refusals.specs.Numbers.{refusal};
 ghost use Rattle.refusals.specs.declared.Cause.{Cause};
 ghost use Rattle.refusals.specs.declared.Verdict.{Verdict};
@@ -16,7 +17,7 @@ ghost use Rattle.ranking.specs.declared.NumberAnswer.{NumberAnswer};
 ghost use Rattle.successors.specs.NextSymbol.{nextNumber};
 ghost use Rattle.weak_orders.specs.declared.WindowAnswer.{WindowAnswer};
 ghost use Rattle.wko.specs.Calls.{toldFirst, withRoom, windowGiven, numberBytes, numberGiven};
-ghost use Rattle.wko.specs.Calls.{nextSymbolCall, rankToHeightCall, heightToRankCall, placeCall, windowAtCall, countCall};
+ghost use Rattle.wko.specs.Calls.{nextSymbolCall, rankToHeightCall, heightToRankCall, placeCall, windowAtCall, countCall, fillCall};
 use ranking::NumberAnswer;
 use refusals::Cause;
 use refusals::Verdict;
@@ -56,7 +57,7 @@ pub extern "C" fn wko_next_symbol(n: u64, rule: u64, window: &[u8]) -> u32
     answer(successors::next_symbol(rule_number(rule), w, n as usize))
 }
 
-// Direct calls test 6, 7, 1, then 8 or 13: a cause that is told before a short buffer.
+// Direct calls test 6, 7, 1, then 8 or 13, and 15 last: a cause that is told before a short buffer.
 fn told_first(cause: Cause) -> bool
     ensures { λ r. ⌜ r ≡ toldFirst cause ⌝ }
 {
@@ -186,4 +187,25 @@ pub extern "C" fn wko_count(n: u64, out: &mut [u8]) -> u32
     ensures { λ r. ⌜ (r, now (out .exit)) ≡ countCall n (now (out .entry)) ⌝ }
 {
     give_number(ranking::count(n as usize), out)
+}
+
+// A weak order for a pattern of n. One of another length is refused before it is loaded, since `load` would leave all its places open.
+fn filling_of(pattern: &[u8], n: usize) -> WindowAnswer
+    ensures { λ r. ⌜ r ≡ fillAnswer n (now (pattern .entry)) ⌝ }
+{
+    if pattern.len() != n {
+        return WindowAnswer {
+            verdict: weak_orders::judge(n, false),
+            window: [0u8; 16],
+        };
+    }
+    filling::fill(weak_orders::load(pattern, n), n)
+}
+
+// A weak order of n in height form that agrees with a pattern.
+#[no_mangle]
+pub extern "C" fn wko_fill(n: u64, pattern: &[u8], out: &mut [u8]) -> u32
+    ensures { λ r. ⌜ (r, now (out .exit)) ≡ fillCall n (now (pattern .entry)) (now (out .entry)) ⌝ }
+{
+    give(filling_of(pattern, n as usize), n as usize, out)
 }

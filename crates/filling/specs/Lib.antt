@@ -1,0 +1,5 @@
+pub mod Pattern
+pub mod Filled
+pub mod Answers
+pub mod Claims
+pub mod Examples

@@ -1,0 +1,170 @@
+// Patterns of a window in height form, with open places, and a weak order that agrees with one (document 02, Paper 1).
+// Rests on weak_orders, and on ranking for the list of all weak orders in the definitions. Knows no rule and no session.
+// A pattern is an array of 16 by value with n beside, as a window is; the bytes past n are not looked at.
+ghost use mathlib.Core.Bool.{true};
+ghost use mathlib.Core.Path.{_≡_};
+ghost use Prim.Native.Nat.{_≤_, _<_};
+ghost use lib.Dec.{leb};
+ghost use lib.ListN.{getD, take};
+ghost use Rattle.weak_orders.specs.Window.{bound, padded};
+ghost use Rattle.filling.specs.Answers.{judgedPattern, fillAnswer};
+ghost use Rattle.filling.specs.Filled.{leastMissing, choice, heightFor, filled};
+ghost use Rattle.filling.specs.Pattern.{isAllowed, isPattern, fillable, fixed, openPlaces, missing};
+use refusals::Cause;
+use refusals::Verdict;
+use weak_orders::WindowAnswer;
+
+// The byte of an open place.
+const OPEN: u8 = 255;
+
+// A byte that a pattern of n may have.
+fn is_allowed(b: u8, n: usize) -> bool
+    ensures { λ r. ⌜ r ≡ isAllowed n b ⌝ }
+{
+    (b == OPEN) | ((b as usize) < n)
+}
+
+// The first n bytes are a pattern of n.
+fn is_pattern(p: [u8; 16], n: usize) -> bool
+    requires { ⌜ n ≤ 16 ⌝ }
+    ensures { λ r. ⌜ r ≡ isPattern n (take n p) ⌝ }
+{
+    let mut i = 0;
+    while i < n {
+        if !is_allowed(p[i], n) {
+            return false;
+        }
+        i += 1;
+    }
+    true
+}
+
+// How many places are open. The table counts them behind the heights up to 16.
+fn open_places(p: [u8; 16], n: usize) -> usize
+    requires { ⌜ (n ≤ 16) × (isPattern n (take n p) ≡ true) ⌝ }
+    ensures { λ r. ⌜ r ≡ openPlaces (take n p) ⌝ }
+{
+    let t = weak_orders::counts(p, 0, n);
+    t[17] as usize
+}
+
+// One more than the largest height that is fixed; 0 where none is.
+fn fixed_bound(p: [u8; 16], n: usize) -> usize
+    requires { ⌜ (n ≤ 16) × (isPattern n (take n p) ≡ true) ⌝ }
+    ensures { λ r. ⌜ r ≡ bound (fixed (take n p)) ⌝ }
+{
+    let t = weak_orders::counts(p, 0, n);
+    let mut v = n;
+    while 0 < v {
+        if t[v - 1] != 0 {
+            return v;
+        }
+        v -= 1;
+    }
+    0
+}
+
+// How many heights are missing below the largest that is fixed.
+fn missing(p: [u8; 16], n: usize) -> usize
+    requires { ⌜ (n ≤ 16) × (isPattern n (take n p) ≡ true) ⌝ }
+    ensures { λ r. ⌜ r ≡ missing (take n p) ⌝ }
+{
+    fixed_bound(p, n) - weak_orders::different(p, n) as usize
+}
+
+// There are at least as many open places as missing heights.
+fn has_room(p: [u8; 16], n: usize) -> bool
+    requires { ⌜ (n ≤ 16) × (isPattern n (take n p) ≡ true) ⌝ }
+    ensures { λ r. ⌜ r ≡ leb (missing (take n p)) (openPlaces (take n p)) ⌝ }
+{
+    missing(p, n) <= open_places(p, n)
+}
+
+// The least height that is not fixed.
+fn least_missing(p: [u8; 16], n: usize) -> u8
+    requires { ⌜ (n ≤ 16) × (isPattern n (take n p) ≡ true) ⌝ }
+    ensures { λ r. ⌜ r ≡ leastMissing (fixed (take n p)) ⌝ }
+{
+    let t = weak_orders::counts(p, 0, n);
+    let mut v: usize = 0;
+    while v < n {
+        if t[v] == 0 {
+            return v as u8;
+        }
+        v += 1;
+    }
+    n as u8
+}
+
+// The height for the first open place: 0 while there are more of them than missing heights, and then the least missing height.
+fn choice(p: [u8; 16], n: usize) -> u8
+    requires { ⌜ (n ≤ 16) × (isPattern n (take n p) ≡ true) ⌝ }
+    ensures { λ r. ⌜ r ≡ choice (take n p) ⌝ }
+{
+    if missing(p, n) < open_places(p, n) {
+        return 0;
+    }
+    least_missing(p, n)
+}
+
+// The height for the place i: the one that is fixed there, or where it is open the choice.
+fn height_for(p: [u8; 16], n: usize, i: usize) -> u8
+    requires { ⌜ (n ≤ 16) × (i < n) × (isPattern n (take n p) ≡ true) ⌝ }
+    ensures { λ r. ⌜ r ≡ heightFor (take n p) (getD p i 0) ⌝ }
+{
+    let b = p[i];
+    if b != OPEN {
+        return b;
+    }
+    choice(p, n)
+}
+
+// The open places filled from the left, in w. The bytes of w past n are the pattern's; v has zeros there.
+fn filled(p: [u8; 16], n: usize) -> [u8; 16]
+    requires { ⌜ (n ≤ 16) × (isPattern n (take n p) ≡ true) × (fillable n (take n p) ≡ true) ⌝ }
+    ensures { λ r. ⌜ r ≡ padded (filled n (take n p)) ⌝ }
+{
+    let mut w = p;
+    let mut v = [0u8; 16];
+    let mut i = 0;
+    while i < n {
+        let h = height_for(w, n, i);
+        w[i] = h;
+        v[i] = h;
+        i += 1;
+    }
+    v
+}
+
+// Tests 6, 8 and 15.
+fn judge(p: [u8; 16], n: usize) -> Verdict
+    ensures { λ r. ⌜ r ≡ judgedPattern n (take n p) ⌝ }
+{
+    if !weak_orders::is_length(n) {
+        return Verdict::Refused(Cause::WindowLength);
+    }
+    if !is_pattern(p, n) {
+        return Verdict::Refused(Cause::NotWeakOrder);
+    }
+    if !has_room(p, n) {
+        return Verdict::Refused(Cause::NoFilling);
+    }
+    Verdict::Accepted
+}
+
+// A weak order of n in height form that agrees with the first n bytes of the pattern wherever they are not open.
+pub fn fill(pattern: [u8; 16], n: usize) -> WindowAnswer
+    ensures { λ r. ⌜ r ≡ fillAnswer n (take n pattern) ⌝ }
+{
+    let verdict = judge(pattern, n);
+    match verdict {
+        Verdict::Accepted => {
+            let w = filled(pattern, n);
+            WindowAnswer {
+                verdict: verdict,
+                window: w,
+            }
+        }
+        Verdict::Refused(cause) => WindowAnswer::refused(cause),
+    }
+}
