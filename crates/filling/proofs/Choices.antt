@@ -1,36 +1,23 @@
 -- The height for the first open place of a pattern leaves room for the missing ones. Assumes nothing.
 use mathlib.Core.Bool.{Bool, true, false, not}
-use mathlib.Core.List.{List, [], _∷_, _++_}
+use mathlib.Core.List.{List, _∷_, _++_}
 use mathlib.Core.Path.{_≡_, refl, sym, ap, _∙_}
-use Prim.Native.Nat.{ℕ, zero, suc, max, _-_, _≤_, _<_}
+use Prim.Native.Nat.{ℕ, suc, max, _-_, _≤_, _<_}
 use native.Mathlib.Omega.{arith}
 use native.Mathlib.Decide.{decLt}
-use lib.ListN.{length, getD}
+use lib.ListN.{getD}
 use borrow.Author.Tests.{lt-ltb, le-ltb, not-true}
-use Rattle.weak_orders.specs.Rotation.{firstIndex}
 use Rattle.weak_orders.specs.Window.{range, occurs, different, bound, height}
 use Rattle.weak_orders.proofs.Lists.{of-range, length-range, getD-range}
-use Rattle.weak_orders.proofs.Rotations.{first-index}
-use Rattle.weak_orders.proofs.Symbols.{height-step, different-below, different≤bound, bound-in, in-occurs}
-use Rattle.weak_orders.proofs.Tests.{_∈_, here, there, by-test, bit, false→not-true}
+use Rattle.weak_orders.proofs.Rotations.{first-index, first-index-none}
+use Rattle.weak_orders.proofs.Symbols.{in-occurs, height-gap, added-middle, bound-in, bound-middle, different-below, different≤bound}
+use Rattle.weak_orders.proofs.Symbols.{different-same, different-more}
+use Rattle.weak_orders.proofs.Tests.{there, by-test, bit, false→not-true}
 use Rattle.filling.specs.Pattern.{isOpen, fixed, openPlaces, missing}
 use Rattle.filling.specs.Filled.{leastMissing, choice}
-use Rattle.filling.proofs.Patterns.{fixed-open, fixed-held, open-cons, open-append, fixed-append, bound-middle, different-held, different-new}
+use Rattle.filling.proofs.Patterns.{fixed-open, fixed-held, open-cons, open-append, fixed-append}
 
--- where fewer than v different symbols are smaller than v, one of these is missing
-gap : (w : List ℕ) (v : ℕ) → height w v < v → (u : ℕ) × (u < v) × (occurs w u ≡ false)
-gap w zero h = absurd (omega arith)
-gap w (suc v) h = by-test (occurs w v)
-    (λ o. let (u, l, e) = gap w v (omega (arith, height-step w v o)) in (u, omega arith, e))
-    (λ o. (v, omega arith, o))
-
--- no element passes the test: the length
-first-none : (f : ℕ → Bool) (l : List ℕ) → ((x : ℕ) → x ∈ l → f x ≡ false) → firstIndex f l ≡ length l
-unfolding firstIndex
-first-none f [] h = refl
-first-none f (x ∷ l) h = rw (h x here) (ap suc (first-none f l (λ y m. h y (there m))))
-
--- and so there is a least missing one
+-- the least missing height, where there is one
 module _ (w : List ℕ) where
   abbrev test : ℕ → Bool
   test v = not (occurs w v)
@@ -43,7 +30,7 @@ module _ (w : List ℕ) where
 
   pub least-missing : different w < bound w → (leastMissing w < bound w) × (occurs w (leastMissing w) ≡ false)
   least-missing h =
-      let (u, lt, o) = gap w (bound w) (omega (arith, different-below w (bound w) (omega arith))) in
+      let (u, lt, o) = height-gap w (bound w) (omega (arith, different-below w (bound w) (omega arith))) in
       let (le, t) = least-up-to u lt o in
       let l : leastMissing w < bound w = omega arith in
       (l, not-true (occurs w (leastMissing w)) (ap test (sym (getD-range (bound w) (leastMissing w) l)) ∙ t))
@@ -59,7 +46,7 @@ module _ (w : List ℕ) where
         omega arith
     | no ge ↦
         let no-more : ¬ (bound w < v) = λ l. omega (arith, bound-in (in-occurs w (bound w) (low (bound w) l))) in
-        let none = first-none test (range (bound w)) (λ u m. ap not (low u (omega (arith, of-range (bound w) m)))) in
+        let none = first-index-none test (range (bound w)) (λ u m. ap not (low u (omega (arith, of-range (bound w) m)))) in
         omega (arith, none, length-range (bound w))
   ]
 
@@ -87,12 +74,12 @@ module _ (u v : List ℕ) (b : ℕ) (o : isOpen b ≡ true) where
     missing-held : occurs (fixed u ++ fixed v) x ≡ true →
         missing (u ++ (x ∷ v)) ≡ max (bound (fixed u ++ fixed v)) (suc x) - different (fixed u ++ fixed v)
     unfolding missing
-    missing-held i = rw (fixed-after, bound-middle (fixed u) (fixed v) x, different-held (fixed u) (fixed v) x i)
+    missing-held i = rw (fixed-after, bound-middle (fixed u) (fixed v) x, different-same (added-middle (fixed u) (fixed v) x) (bound-middle (fixed u) (fixed v) x) i)
 
     missing-new : occurs (fixed u ++ fixed v) x ≡ false →
         missing (u ++ (x ∷ v)) ≡ max (bound (fixed u ++ fixed v)) (suc x) - suc (different (fixed u ++ fixed v))
     unfolding missing
-    missing-new i = rw (fixed-after, bound-middle (fixed u) (fixed v) x, different-new (fixed u) (fixed v) x i)
+    missing-new i = rw (fixed-after, bound-middle (fixed u) (fixed v) x, different-more (added-middle (fixed u) (fixed v) x) (bound-middle (fixed u) (fixed v) x) i)
 
     -- 0, where there are more open places than missing heights
     spare : x ≡ 0 → missing (u ++ (b ∷ v)) < openPlaces (u ++ (b ∷ v)) → missing (u ++ (x ∷ v)) ≤ openPlaces (u ++ (x ∷ v))

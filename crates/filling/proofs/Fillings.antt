@@ -2,7 +2,7 @@
 use mathlib.Core.Bool.{true, false}
 use mathlib.Core.List.{List, [], _∷_, _++_, append-nil, Memᴰ·append-left, Memᴰ·append-right, List·Memᴰ·append-cases}
 use mathlib.Core.Logic.{inl, inr, ⊎-elim}
-use mathlib.Core.Path.{_≡_, refl, sym, ap, _∙_}
+use mathlib.Core.Path.{_≡_, refl, ap}
 use Prim.Native.Nat.{ℕ, _≤_, _<_}
 use native.Mathlib.Omega.{arith}
 use lib.ListN.{length-append}
@@ -10,12 +10,12 @@ use lib.Seq.{append-snoc}
 use borrow.Author.Tests.{ne-eqb}
 use Rattle.weak_orders.specs.Window.{isHeight, different, bound}
 use Rattle.weak_orders.proofs.HeightForm.{form-height}
-use Rattle.weak_orders.proofs.Symbols.{different≤bound}
+use Rattle.weak_orders.proofs.Symbols.{bound-le, different≤bound}
 use Rattle.weak_orders.proofs.Tests.{there, split-mem, by-test, bit}
 use Rattle.filling.specs.Pattern.{isOpen, isPattern, agrees, Filling, fixed, openPlaces, missing}
 use Rattle.filling.specs.Filled.{choice, heightFor, filledFrom}
 use Rattle.filling.proofs.Patterns.{open-nil, open-cons, open-append, fixed-whole, says-pattern, fixed-below, says-agrees, no-shorter}
-use Rattle.filling.proofs.Patterns.{agrees-nil, bound-le}
+use Rattle.filling.proofs.Patterns.{agrees-nil}
 use Rattle.filling.proofs.Choices.{choice-bound, choice-keeps}
 
 -- a pattern with at least as many open places as missing heights

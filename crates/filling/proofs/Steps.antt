@@ -39,34 +39,34 @@ module _ (n : ℕ) (few : n ≤ 16) (p w v : List ℕ) (i : ℕ) (F : FilledTo n
     size : length (take n w) ≡ n
     size = length-take-le n w (omega (arith, F .long))
 
-    before : take n w ≡ take i w ++ (getD w i 0 ∷ behind)
-    before = split-at (take n w) i 0 (omega (arith, size)) ∙ rw (take-take i n w (omega arith), getD-take n w i 0 lt, ← add-one i)
+    split-before : take n w ≡ take i w ++ (getD w i 0 ∷ behind)
+    split-before = split-at (take n w) i 0 (omega (arith, size)) ∙ rw (take-take i n w (omega arith), getD-take n w i 0 lt, ← add-one i)
 
-    after : take n (set w i x) ≡ take i w ++ (x ∷ behind)
-    after = take-set-lt n w i x lt ∙ set-split (take n w) i x (omega (arith, size)) ∙ rw (take-take i n w (omega arith), ← add-one i)
+    split-after : take n (set w i x) ≡ take i w ++ (x ∷ behind)
+    split-after = take-set-lt n w i x lt ∙ set-split (take n w) i x (omega (arith, size)) ∙ rw (take-take i n w (omega arith), ← add-one i)
 
-    was : x ≡ heightFor (take i w ++ (getD w i 0 ∷ behind)) (getD w i 0)
-    was = e ∙ ap (λ q. heightFor q (getD w i 0)) before
+    chosen : x ≡ heightFor (take i w ++ (getD w i 0 ∷ behind)) (getD w i 0)
+    chosen = e ∙ ap (λ q. heightFor q (getD w i 0)) split-before
 
-    one-more : set v i x ≡ padded (take (i + 1) (set w i x))
-    one-more = padded-next (set w i x) v i x
+    front-next : set v i x ≡ padded (take (i + 1) (set w i x))
+    front-next = padded-next (set w i x) v i x
         (omega (arith, length-set w i x, F .long))
         (omega (arith, length-set w i x, F .long))
         (F .front ∙ ap padded (sym (take-set-le i w i x (omega arith))))
         (sym (getD-set-same w i x 0 (omega (arith, F .long))))
 
-    on : filledFrom (take (i + 1) (set w i x)) (drop (i + 1) (take n (set w i x))) ≡ filledFrom (take i w) (drop i (take n w))
+    same-next : filledFrom (take (i + 1) (set w i x)) (drop (i + 1) (take n (set w i x))) ≡ filledFrom (take i w) (drop i (take n w))
     unfolding filledFrom
-    on =
+    same-next =
         let start : take (i + 1) (set w i x) ≡ take i w ++ (x ∷ []) = rw (add-one i) (take-suc-set w i x (omega (arith, F .long))) in
         let rest : drop (i + 1) (take n (set w i x)) ≡ behind = rw (take-set-lt n w i x lt) (drop-set-lt (i + 1) (take n w) i x (omega arith)) in
-        ap₂ filledFrom start rest ∙ rw (part-front w i n (omega (arith, F .long)) lt, was)
+        ap₂ filledFrom start rest ∙ rw (part-front w i n (omega (arith, F .long)) lt, chosen)
 
     pub filled-next : FilledTo n p (set w i x) (set v i x) (i + 1)
     filled-next = record {
       inside = omega arith;
       long = length-set w i x ∙ F .long;
-      front = one-more;
-      room = rw (after, was) (room-kept n few (take i w) behind (getD w i 0) (rw before at (F .room)));
-      same = on ∙ F .same;
+      front = front-next;
+      room = rw (split-after, chosen) (room-kept n few (take i w) behind (getD w i 0) (rw split-before at (F .room)));
+      same = same-next ∙ F .same;
     }

@@ -7,7 +7,7 @@ use lib.Dec.{eqb}
 use lib.ListN.{replicate}
 use Rattle.refusals.specs.declared.Cause.the-variants.{WindowLength, NotWeakOrder, NoFilling}
 use Rattle.refusals.specs.declared.Verdict.the-variants.{Accepted, Refused}
-use Rattle.weak_orders.specs.Window.{count, range}
+use Rattle.weak_orders.specs.Window.{count}
 use Rattle.ranking.specs.Dictionary.{strings}
 use Rattle.filling.specs.Answers.{judgedPattern, fillAnswer}
 use Rattle.filling.specs.Filled.{filled}

@@ -5,6 +5,7 @@ use mathlib.Core.Path.{_≡_}
 use Prim.Native.Nat.{ℕ, _-_}
 use lib.Dec.{ltb, eqb}
 use lib.ListN.{length}
+use Rattle.weak_orders.specs.Tables.{tally}
 use Rattle.weak_orders.specs.Window.{all, count, different, bound}
 use Rattle.ranking.specs.Dictionary.{select, heightWindows}
 use Rattle.ranking.specs.Numbering.{HeightWindow}
@@ -53,3 +54,7 @@ openPlaces p = count isOpen p
 unfoldable pub missing : List ℕ → ℕ
 unfolding fixed bound different
 missing p = bound (fixed p) - different (fixed p)
+
+-- r is what f gives for every pattern of n whose table of counts is t (for private functions)
+abbrev pub ByTable : ℕ → List ℕ → (List ℕ → ℕ) → ℕ → Type 0
+ByTable n t f r = (p : List ℕ) → isPattern n p ≡ true → t ≡ tally p → r ≡ f p

@@ -9,7 +9,7 @@ ghost use lib.ListN.{getD, take};
 ghost use Rattle.weak_orders.specs.Window.{bound, padded};
 ghost use Rattle.filling.specs.Answers.{judgedPattern, fillAnswer};
 ghost use Rattle.filling.specs.Filled.{leastMissing, choice, heightFor, filled};
-ghost use Rattle.filling.specs.Pattern.{isAllowed, isPattern, fillable, fixed, openPlaces, missing};
+ghost use Rattle.filling.specs.Pattern.{isAllowed, isPattern, fillable, fixed, openPlaces, missing, ByTable};
 use refusals::Cause;
 use refusals::Verdict;
 use weak_orders::WindowAnswer;
@@ -39,21 +39,11 @@ fn is_pattern(p: [u8; 16], n: usize) -> bool
     true
 }
 
-// How many places are open. The table counts them behind the heights up to 16.
-fn open_places(p: [u8; 16], n: usize) -> usize
-    requires { ⌜ (n ≤ 16) × (isPattern n (take n p) ≡ true) ⌝ }
-    ensures { λ r. ⌜ r ≡ openPlaces (take n p) ⌝ }
+// One more than the largest height that the table has; 0 where it has none.
+fn fixed_bound(t: [u8; 18], n: usize) -> usize
+    requires { ⌜ n ≤ 16 ⌝ }
+    ensures { λ r. ⌜ (r ≤ n) × ByTable n t (λ p. bound (fixed p)) r ⌝ }
 {
-    let t = weak_orders::counts(p, 0, n);
-    t[17] as usize
-}
-
-// One more than the largest height that is fixed; 0 where none is.
-fn fixed_bound(p: [u8; 16], n: usize) -> usize
-    requires { ⌜ (n ≤ 16) × (isPattern n (take n p) ≡ true) ⌝ }
-    ensures { λ r. ⌜ r ≡ bound (fixed (take n p)) ⌝ }
-{
-    let t = weak_orders::counts(p, 0, n);
     let mut v = n;
     while 0 < v {
         if t[v - 1] != 0 {
@@ -64,28 +54,28 @@ fn fixed_bound(p: [u8; 16], n: usize) -> usize
     0
 }
 
-// How many heights are missing below the largest that is fixed.
-fn missing(p: [u8; 16], n: usize) -> usize
-    requires { ⌜ (n ≤ 16) × (isPattern n (take n p) ≡ true) ⌝ }
-    ensures { λ r. ⌜ r ≡ missing (take n p) ⌝ }
+// How many heights below the largest that is fixed are missing.
+fn missing(t: [u8; 18], n: usize) -> usize
+    requires { ⌜ n ≤ 16 ⌝ }
+    ensures { λ r. ⌜ ByTable n t missing r ⌝ }
 {
-    fixed_bound(p, n) - weak_orders::different(p, n) as usize
-}
-
-// There are at least as many open places as missing heights.
-fn has_room(p: [u8; 16], n: usize) -> bool
-    requires { ⌜ (n ≤ 16) × (isPattern n (take n p) ≡ true) ⌝ }
-    ensures { λ r. ⌜ r ≡ leb (missing (take n p)) (openPlaces (take n p)) ⌝ }
-{
-    missing(p, n) <= open_places(p, n)
+    let top = fixed_bound(t, n);
+    let mut gaps: usize = 0;
+    let mut v = 0;
+    while v < top {
+        if t[v] == 0 {
+            gaps += 1;
+        }
+        v += 1;
+    }
+    gaps
 }
 
 // The least height that is not fixed.
-fn least_missing(p: [u8; 16], n: usize) -> u8
-    requires { ⌜ (n ≤ 16) × (isPattern n (take n p) ≡ true) ⌝ }
-    ensures { λ r. ⌜ r ≡ leastMissing (fixed (take n p)) ⌝ }
+fn least_missing(t: [u8; 18], n: usize) -> u8
+    requires { ⌜ n ≤ 16 ⌝ }
+    ensures { λ r. ⌜ ByTable n t (λ p. leastMissing (fixed p)) r ⌝ }
 {
-    let t = weak_orders::counts(p, 0, n);
     let mut v: usize = 0;
     while v < n {
         if t[v] == 0 {
@@ -96,15 +86,25 @@ fn least_missing(p: [u8; 16], n: usize) -> u8
     n as u8
 }
 
+// There are at least as many open places, which the last entry of the table counts, as missing heights.
+fn has_room(p: [u8; 16], n: usize) -> bool
+    requires { ⌜ (n ≤ 16) × (isPattern n (take n p) ≡ true) ⌝ }
+    ensures { λ r. ⌜ r ≡ leb (missing (take n p)) (openPlaces (take n p)) ⌝ }
+{
+    let t = weak_orders::counts(p, 0, n);
+    missing(t, n) <= t[17] as usize
+}
+
 // The height for the first open place: 0 while there are more of them than missing heights, and then the least missing height.
 fn choice(p: [u8; 16], n: usize) -> u8
     requires { ⌜ (n ≤ 16) × (isPattern n (take n p) ≡ true) ⌝ }
     ensures { λ r. ⌜ r ≡ choice (take n p) ⌝ }
 {
-    if missing(p, n) < open_places(p, n) {
+    let t = weak_orders::counts(p, 0, n);
+    if missing(t, n) < t[17] as usize {
         return 0;
     }
-    least_missing(p, n)
+    least_missing(t, n)
 }
 
 // The height for the place i: the one that is fixed there, or where it is open the choice.

@@ -1,6 +1,6 @@
 -- The rotations of a window: what a rotation keeps, and the least and the greatest of them. All rotations of one window are its rotation
 -- class; the papers call it a ring. Assumes nothing.
-use mathlib.Core.Bool.{Bool, true}
+use mathlib.Core.Bool.{Bool, true, false}
 use mathlib.Core.List.{List, [], _∷_, _++_, append-assoc, append-nil, List·Memᴰ·head, Memᴰ·append-right, head-eq-of-cons-eq}
 use mathlib.Core.List.{tail-eq-of-cons-eq}
 use mathlib.Core.List.{Memᴰ·map, Memᴰ·of-map, Memᴰ·cast}
@@ -18,7 +18,7 @@ use Rattle.weak_orders.proofs.Iterates.{_⇝⟨_⟩_, iter-add, along, 
 use Rattle.weak_orders.proofs.Lists.{count-append, in-range, length-range, getD-range, total, total-append}
 use Rattle.weak_orders.proofs.Orders.{lex-trans, lex-total, least-member}
 use Rattle.weak_orders.proofs.Symbols.{num-mem}
-use Rattle.weak_orders.proofs.Tests.{_∈_, there, nowhere, split-mem, true?, not-true→false, says-as, says-itself, says-all}
+use Rattle.weak_orders.proofs.Tests.{_∈_, here, there, nowhere, split-mem, true?, not-true→false, says-as, says-itself, says-all}
 
 -- Rotation by one.
 unfoldable pub turn : List ℕ → List ℕ
@@ -173,6 +173,12 @@ first-index f (x ∷ l) d (suc j) lt t = elim (true? (f x)) [
   | yes h ↦ rw (h) (omega arith, h)
   | no h ↦ rw (not-true→false (f x) h) (let (le, t′) = first-index f l d j (omega arith) t in (omega arith, t′))
 ]
+
+-- where no element passes the test it is the length
+pub first-index-none : {A : Type 0} (f : A → Bool) (l : List A) → ((x : A) → x ∈ l → f x ≡ false) → firstIndex f l ≡ length l
+unfolding firstIndex
+first-index-none f [] h = refl
+first-index-none f (x ∷ l) h = rw (h x here) (ap suc (first-index-none f l (λ y m. h y (there m))))
 
 length-rotations : (w : List ℕ) → length (rotations w) ≡ length w
 unfolding rotations

@@ -218,6 +218,13 @@ module _ (w : List ℕ) where
       ])
       (λ o. absurd (omega (arith, height-skip v o, height-le v)))
 
+  -- where fewer than v different symbols are smaller than v, one of these is missing
+  pub height-gap : (v : ℕ) → height w v < v → (u : ℕ) × (u < v) × (occurs w u ≡ false)
+  height-gap zero h = absurd (omega arith)
+  height-gap (suc v) h = by-test (occurs w v)
+      (λ o. let (u, l, e) = height-gap v (omega (arith, height-step v o)) in (u, omega arith, e))
+      (λ o. (v, omega arith, o))
+
   -- nothing occurs from u on, so no height is gained
   pub height-past : (u v : ℕ) → u ≤ v → ((x : ℕ) → u ≤ x → x < v → occurs w x ≡ false) → height w v ≡ height w u
   height-past u zero h no′ = let e : u ≡ 0 = omega arith in cc
@@ -247,6 +254,12 @@ same-occurs w w′ u e = ap (ltb 0) e
 
 pub added-front : (w : List ℕ) (x : ℕ) → Added w x (x ∷ w)
 added-front w x = record { new = occurs-in here; old = λ u ne. same-occurs (x ∷ w) w u (num-other x w u ne) }
+
+pub added-middle : (v w : List ℕ) (x : ℕ) → Added (v ++ w) x (v ++ (x ∷ w))
+added-middle v w x = record {
+  new = occurs-in (Memᴰ·append-right v here);
+  old = λ u ne. same-occurs (v ++ (x ∷ w)) (v ++ w) u (omega (arith, num-append v (x ∷ w) u, num-append v w u, num-other x w u ne));
+}
 
 pub added-back : (w : List ℕ) (x : ℕ) → Added w x (w ++ (x ∷ []))
 added-back w x = record {
@@ -282,10 +295,20 @@ bound-find (x ∷ w) u h = elim (decLt u (bound w)) [
   | no l ↦ (x, here, omega arith)
 ]
 
+-- all symbols are below it, and it is the least such number
+pub bound-le : (n : ℕ) (w : List ℕ) → ((x : ℕ) → x ∈ w → x < n) → bound w ≤ n
+unfolding bound
+bound-le n [] h = omega arith
+bound-le n (x ∷ w) h = omega (arith, h x here, bound-le n w (λ y m. h y (there m)))
+
 pub bound-append : (v w : List ℕ) → bound (v ++ w) ≡ max (bound v) (bound w)
 unfolding bound
 bound-append [] w = omega arith
 bound-append (x ∷ v) w = omega (arith, bound-append v w)
+
+pub bound-middle : (v w : List ℕ) (x : ℕ) → bound (v ++ (x ∷ w)) ≡ max (bound (v ++ w)) (suc x)
+unfolding bound
+bound-middle v w x = omega (arith, bound-append v (x ∷ w), bound-append v w)
 
 pub bound-back : (w : List ℕ) (x : ℕ) → bound (w ++ (x ∷ [])) ≡ max (bound w) (suc x)
 unfolding bound
@@ -307,16 +330,38 @@ unfolding different
 different≤length [] = omega arith
 different≤length (x ∷ w) = by-test (occurs w x) (λ o. rw o (omega (arith, different≤length w))) (λ o. rw o (omega (arith, different≤length w)))
 
--- x is put behind w: one more, or the same
+-- one symbol more, wherever it is put: as many different ones as before, or one more
+module _ {w w′ : List ℕ} {x : ℕ} (A : Added w x w′) (b : bound w′ ≡ max (bound w) (suc x)) where
+  pub different-same : occurs w x ≡ true → different w′ ≡ different w
+  different-same o = omega (
+    arith,
+    different-below w′ (bound w′) (omega arith),
+    height-old A (bound w′) o,
+    different-below w (bound w′) (omega arith),
+  )
+
+  pub different-more : occurs w x ≡ false → different w′ ≡ suc (different w)
+  different-more o = omega (
+    arith,
+    different-below w′ (bound w′) (omega arith),
+    height-new A (bound w′) o (omega arith),
+    different-below w (bound w′) (omega arith),
+  )
+
+-- x is put before w, and behind it
 module _ (w : List ℕ) (x : ℕ) where
+  bound-front : bound (x ∷ w) ≡ max (bound w) (suc x)
+  unfolding bound
+  bound-front = omega arith
+
+  pub different-again : occurs w x ≡ true → different (x ∷ w) ≡ different w
+  different-again = different-same (added-front w x) bound-front
+
+  pub different-fresh : occurs w x ≡ false → different (x ∷ w) ≡ suc (different w)
+  different-fresh = different-more (added-front w x) bound-front
+
   pub different-old : occurs w x ≡ true → different (w ++ (x ∷ [])) ≡ different w
-  different-old o =
-      let w′ = w ++ (x ∷ []) in
-      let b : bound w ≤ bound w′ = omega (arith, bound-back w x) in
-      omega (arith, different-below w′ (bound w′) (omega arith), height-old (added-back w x) (bound w′) o, different-below w (bound w′) b)
+  different-old = different-same (added-back w x) (bound-back w x)
 
   pub different-new : occurs w x ≡ false → different (w ++ (x ∷ [])) ≡ suc (different w)
-  different-new o =
-      let w′ = w ++ (x ∷ []) in
-      let (b, l) : (bound w ≤ bound w′) × (x < bound w′) = omega (arith, bound-back w x) in
-      omega (arith, different-below w′ (bound w′) (omega arith), height-new (added-back w x) (bound w′) o l, different-below w (bound w′) b)
+  different-new = different-more (added-back w x) (bound-back w x)

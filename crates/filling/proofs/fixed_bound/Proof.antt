@@ -3,7 +3,7 @@ use mathlib.Core.Path.{_≡_}
 use Prim.Native.Nat.{ℕ, _-_, _≤_, _<_}
 use native.Mathlib.Omega.{arith}
 use native.Mathlib.Decide.{ℕ-discrete}
-use lib.ListN.{getD, take}
+use lib.ListN.{getD}
 use borrow.Author.Needs.{needs}
 use Rattle.filling.proofs.Scans.{bound-to, bound-past}
 use Rattle.filling.proofs.fixed_bound.Statement.{statement}
@@ -15,9 +15,6 @@ Inv-loop n t v₀ v = (v ≤ n) × ((u : ℕ) → v ≤ u → u < n → getD t u
 abbrev μ-loop : tie.MeasureT-loop
 μ-loop n t v₀ v = v
 
-counts-requires : tie.Need-counts-requires Inv-loop μ-loop
-counts-requires c κs = search needs
-
 loop-holds : tie.Need-loop-holds Inv-loop μ-loop
 loop-holds c = (search needs, λ u ge lt. absurd (omega arith))
 
@@ -27,18 +24,17 @@ sub-if1 c = search needs
 array-read-if1 : tie.Need-array-read-if1 Inv-loop μ-loop
 array-read-if1 c = search needs
 
--- bound-to and bound-past, at the table
 returns : tie.Need-returns Inv-loop μ-loop
 returns c =
-    let p = c .before .before in
-    let k = p .before .counts in
-    let s = p .before .before in
-    let a = s .args in
-    let v = p .loop .v in
-    omega (
-      arith,
-      bound-to (a .n) (take (a .n) (a .p)) (s .pre .0) (s .pre .1) (k .result) (k .ensures) v (p .loop .inv .1),
-      bound-past (a .n) (take (a .n) (a .p)) (s .pre .0) (s .pre .1) (k .result) (k .ensures) (v - 1) (omega arith) (c .if1 .taken),
+    let p = c .before .before .loop in
+    let n = c .before .before .before .args .n in
+    let few = c .before .before .before .pre in (
+      p .inv .0,
+      λ q t e. omega (
+        arith,
+        bound-to n q few t _ e (p .v) (p .inv .1),
+        bound-past n q few t _ e (p .v - 1) (omega arith) (c .if1 .taken),
+      ),
     )
 
 sub-v : tie.Need-sub-v Inv-loop μ-loop
@@ -59,11 +55,9 @@ loop-again c =
 
 returns-2 : tie.Need-returns-2 Inv-loop μ-loop
 returns-2 c =
-    let p = c .before in
-    let k = p .before .counts in
-    let s = p .before .before in
-    let a = s .args in
-    omega (arith, bound-to (a .n) (take (a .n) (a .p)) (s .pre .0) (s .pre .1) (k .result) (k .ensures) (p .loop .v) (p .loop .inv .1))
+    let p = c .before .loop in
+    let s = c .before .before in
+    (search needs, λ q t e. omega (arith, bound-to (s .args .n) q (s .pre) t _ e (p .v) (p .inv .1)))
 
 pub fixed-bound-spec : {M : Type 1} → statement M
 fixed-bound-spec =
@@ -71,7 +65,6 @@ fixed-bound-spec =
     (tie.spec
     Inv-loop
     μ-loop
-    counts-requires
     loop-holds
     sub-if1
     array-read-if1

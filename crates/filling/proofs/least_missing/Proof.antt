@@ -1,10 +1,10 @@
 -- `least_missing`: every height below v is fixed. Assumes nothing.
 use mathlib.Core.Logic.{_≢_}
-use mathlib.Core.Path.{_≡_, sym}
+use mathlib.Core.Path.{sym}
 use Prim.Native.Nat.{ℕ, _-_, _≤_, _<_}
 use native.Mathlib.Omega.{arith}
 use native.Mathlib.Decide.{ℕ-discrete}
-use lib.ListN.{getD, take}
+use lib.ListN.{getD}
 use borrow.Author.Needs.{needs}
 use Rattle.filling.proofs.Scans.{least-none, least-all}
 use Rattle.filling.proofs.least_missing.Statement.{statement}
@@ -15,9 +15,6 @@ Inv-loop n t v₀ v = (v ≤ n) × ((u : ℕ) → u < v → getD t u 0 ≢ 0)
 
 abbrev μ-loop : tie.MeasureT-loop
 μ-loop n t v₀ v = n - v
-
-counts-requires : tie.Need-counts-requires Inv-loop μ-loop
-counts-requires c κs = search needs
 
 loop-holds : tie.Need-loop-holds Inv-loop μ-loop
 loop-holds c = (search needs, λ u lt. absurd (omega arith))
@@ -30,11 +27,9 @@ cast-result c = search needs
 
 returns : tie.Need-returns Inv-loop μ-loop
 returns c =
-    let p = c .before .before in
-    let k = p .before .counts in
-    let s = p .before .before in
-    let a = s .args in
-    sym (least-none (a .n) (take (a .n) (a .p)) (s .pre .0) (s .pre .1) (k .result) (k .ensures) (p .loop .v) (p .loop .inv .0) (p .loop .inv .1) (c .if1 .taken))
+    let p = c .before .before .loop in
+    let s = c .before .before .before in
+    λ q t e. sym (least-none (s .args .n) q (s .pre) t _ e (p .v) (p .inv .0) (p .inv .1) (c .if1 .taken))
 
 add-v : tie.Need-add-v Inv-loop μ-loop
 add-v c = search needs
@@ -57,14 +52,9 @@ cast-result-2 c = search needs
 
 returns-2 : tie.Need-returns-2 Inv-loop μ-loop
 returns-2 c =
-    let p = c .before in
-    let k = p .before .counts in
-    let s = p .before .before in
-    let a = s .args in
-    omega (
-      arith,
-      least-all (a .n) (take (a .n) (a .p)) (s .pre .0) (s .pre .1) (k .result) (k .ensures) (p .loop .v) (p .loop .inv .0) (p .loop .inv .1) (omega arith),
-    )
+    let p = c .before .loop in
+    let s = c .before .before in
+    λ q t e. omega (arith, least-all (s .args .n) q (s .pre) t _ e (p .v) (p .inv .0) (p .inv .1) (omega arith))
 
 pub least-missing-spec : {M : Type 1} → statement M
 least-missing-spec =
@@ -72,7 +62,6 @@ least-missing-spec =
     (tie.spec
     Inv-loop
     μ-loop
-    counts-requires
     loop-holds
     array-read-if1
     cast-result
