@@ -311,7 +311,7 @@ static void random_patterns(long rounds)
     }
 }
 
-/* Every length with every buffer, for a weak order, for all places open, for a pattern that no weak order agrees with, and for one that is none. */
+/* Slices of 0 to 20 bytes with buffers of 0 to 18: a weak order, all places open, a pattern that no weak order agrees with, and one that is none. */
 static void refusals_of_fill(void)
 {
     static const uint8_t last[4] = {0, 255, 1, 254};

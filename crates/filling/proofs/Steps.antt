@@ -9,8 +9,7 @@ use lib.Seq.{length-take-le, take-take, getD-take, split-at, set-split, take-set
 use Rattle.weak_orders.specs.Window.{padded}
 use Rattle.weak_orders.proofs.Padded.{padded-next}
 use Rattle.weak_orders.proofs.Parts.{part-none, part-front}
-use Rattle.filling.specs.Filled.{heightFor, filledFrom, filled}
-use Rattle.filling.specs.Filled.Choice.{today}
+use Rattle.filling.specs.Filled.{heightFor, filledFrom}
 use Rattle.filling.proofs.Fillings.{HasRoom, room-kept}
 
 -- the first i places of w are filled, from the pattern of n in p, and v has them with zeros behind
@@ -25,12 +24,12 @@ pub filled-start : (n : ℕ) (p v : List ℕ) → length p ≡ 16 → v ≡ padd
 filled-start n p v l e R = record { inside = omega arith; long = l; front = e; room = R; same = refl }
 
 module _ (n : ℕ) (few : n ≤ 16) (p w v : List ℕ) (i : ℕ) (F : FilledTo n p w v i) where
-  pub filled-end : n ≤ i → v ≡ padded (filled n (take n p))
+  pub filled-end : n ≤ i → v ≡ padded (filledFrom [] (take n p))
   unfolding filledFrom
   filled-end ge =
       let all : i ≡ n = omega (arith, F .inside) in
       let done : take n w ≡ filledFrom [] (take n p) = rw (all, part-none w n n (omega arith)) at (F .same) in
-      F .front ∙ rw all (ap padded (done ∙ sym (today n (take n p))))
+      F .front ∙ rw all (ap padded done)
 
   module _ (lt : i < n) (x : ℕ) (e : x ≡ heightFor (take n w) (getD w i 0)) where
     abbrev behind : List ℕ

@@ -15,12 +15,12 @@ abbrev pub isOpen : ℕ → Bool
 isOpen b = eqb b 255
 
 -- a byte of a pattern of n: open, or a height below n
-abbrev pub isAllowed : ℕ → ℕ → Bool
+unfoldable pub isAllowed : ℕ → ℕ → Bool
 isAllowed n b = isOpen b || ltb b n
 
 -- document 02's pattern: n such bytes
 unfoldable pub isPattern : ℕ → List ℕ → Bool
-unfolding all
+unfolding all isAllowed
 isPattern n p = eqb (length p) n && all (isAllowed n) p
 
 -- w is as long as p, and has the byte of p wherever that is not open

@@ -1,10 +1,12 @@
 -- `filled`: the places up to i are filled. Assumes nothing.
-use mathlib.Core.Path.{_≡_}
+use mathlib.Core.Path.{_≡_, sym, ap, _∙_}
 use Prim.Native.Nat.{_-_}
 use native.Mathlib.Omega.{arith}
 use lib.ListN.{length, take}
 use borrow.Author.Needs.{needs}
+use Rattle.weak_orders.specs.Window.{padded}
 use Rattle.weak_orders.proofs.Padded.{padded-nil}
+use Rattle.filling.specs.Filled.Choice.{today}
 use Rattle.filling.proofs.Laws.{fillable-room}
 use Rattle.filling.proofs.Steps.{FilledTo, filled-start, filled-next, filled-end}
 use Rattle.filling.proofs.filled.Statement.{statement}
@@ -45,7 +47,8 @@ loop-again c =
 returns : tie.Need-returns Inv-loop μ-loop
 returns c =
     let l = c .before in
-    filled-end _ (l .before .pre .0) _ _ _ _ (l .loop .inv) (omega arith)
+    let a = l .before .args in
+    filled-end _ (l .before .pre .0) _ _ _ _ (l .loop .inv) (omega arith) ∙ ap padded (sym (today (a .n) (take (a .n) (a .p))))
 
 pub filled-spec : {M : Type 1} → statement M
 filled-spec =
