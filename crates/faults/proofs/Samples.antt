@@ -3,7 +3,7 @@ use mathlib.Core.Path.{refl}
 use Rattle.weak_orders.specs.Window.{all, count, below, isRank}
 use Rattle.successors.specs.Rules.{inForm, isRule}
 use Rattle.frames.specs.Fields.{sameBytes}
-use Rattle.frames.specs.Level.{settingOk}
+use Rattle.levels.specs.Level.{settingOk}
 use Rattle.decimals.specs.Reading.{further, next, both, behind, startsWith, closed, ended, run, value, wellWritten}
 use Rattle.decimals.specs.Reading.{number, negative, positive, signedNumber, commaThen, numbers}
 use Rattle.sheets.specs.Sheet.{hasTitle, lengthAndRule, topAndSpacing, fields, sheetLines, wholly, parse}

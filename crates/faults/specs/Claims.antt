@@ -12,7 +12,7 @@ use Rattle.refusals.specs.declared.Cause.the-variants.{WindowLength, RuleNumber
 use Rattle.refusals.specs.declared.Verdict.{Verdict}
 use Rattle.refusals.specs.declared.Verdict.the-variants.{Accepted, Refused}
 use Rattle.successors.specs.Rules.{inForm}
-use Rattle.frames.specs.Level.{topOk, spacingOk}
+use Rattle.levels.specs.Level.{topOk, spacingOk}
 use Rattle.sheets.specs.Sheet.{RawSheet, parse}
 use Rattle.sheets.specs.Judgement.{judgedText}
 use Rattle.faults.specs.Faults.{faultOf}

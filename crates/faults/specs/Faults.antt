@@ -11,7 +11,7 @@ use Rattle.refusals.specs.Numbers.{causeNumber}
 use Rattle.refusals.specs.declared.Verdict.{Verdict}
 use Rattle.refusals.specs.declared.Verdict.the-variants.{Accepted, Refused}
 use Rattle.frames.specs.Fields.{byte}
-use Rattle.frames.specs.Level.{topOk, spacingOk}
+use Rattle.levels.specs.Level.{topOk, spacingOk}
 use Rattle.sheets.specs.Sheet.{RawSheet, longest, hasTitle, parse}
 use Rattle.sheets.specs.Judgement.{judged}
 use Rattle.faults.specs.declared.Fault.{Fault}

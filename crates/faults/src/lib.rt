@@ -1,5 +1,5 @@
 // What is wrong with a sheet, finer than the number of its refusal: what a person is told.
-// Rests on sheets for the reader, the verdict and the parts of test 9. The words are written by the program that prints them.
+// Rests on sheets for the reader and the verdict, and on levels for the parts of test 9. The words are written by the program that prints them.
 ghost use mathlib.Core.Path.{_≡_};
 ghost use Rattle.faults.specs.Faults.{hasByte, endsLine, malformed, startFault, settingFault, refusedFor, faultOf};
 use refusals::Verdict;
@@ -98,10 +98,10 @@ fn start_fault(sheet: Sheet) -> Fault
 fn setting_fault(sheet: Sheet) -> Fault
     ensures { λ r. ⌜ r ≡ settingFault (sheet .top) (sheet .spacing) ⌝ }
 {
-    if !judge::top_ok(sheet.top) {
+    if !levels::top_ok(sheet.top) {
         return Fault::Top;
     }
-    if !judge::spacing_ok(sheet.spacing) {
+    if !levels::spacing_ok(sheet.spacing) {
         return Fault::Spacing;
     }
     Fault::LowestLevel

@@ -1,11 +1,11 @@
--- Signed numbers: two's complement of 16 and 32 bits, and how large a difference is. Assumes nothing.
+-- Signed numbers: two's complement of 16 and 32 bits. Assumes nothing.
 use mathlib.Core.Bool.{Bool, true, false, cond}
 use mathlib.Core.Path.{_≡_, refl, ap}
-use Prim.Native.Nat.{ℕ, zero, suc, _+_, _-_, _≤_, _<_, _^_}
+use Prim.Native.Nat.{ℕ, suc, _-_, _≤_, _<_, _^_}
 use native.Mathlib.Omega.{arith}
 use lib.Dec.{ltb}
-use lib.IntN.{ℤ, pos, negsuc, subℕ, _+ℤ_, _-ℤ_}
-use lib.Signed.{mag, ltZ}
+use lib.IntN.{ℤ, pos, negsuc, _+ℤ_, _-ℤ_}
+use lib.Signed.{ltZ}
 use borrow.Author.Tests.{le-ltb, lt-ltb, ltb-true, ltb-false}
 use mir.Syntax.{w16, w32}
 use mir.Val.{SFits}
@@ -38,17 +38,3 @@ signed16-fits x l = fits (ltb x 32768) refl
     fits : (b : Bool) → ltb x 32768 ≡ b → SFits w16 (cond b (pos x) (negsuc (65535 - x)))
     fits true e = record { sfits = omega (arith, ltb-true x 32768 e) }
     fits false e = record { sfits = omega (arith, ltb-false x 32768 e) }
-
--- The size of a difference.
-pick-mag : (t : Bool) (m n k : ℕ) → m ≤ k → n ≤ k → mag (cond t (negsuc m) (pos n)) ≤ k
-pick-mag true m n k p q = p
-pick-mag false m n k p q = q
-
-sub-mag : (a b : ℕ) → mag (subℕ a b) ≤ a + b
-sub-mag a b = pick-mag (ltb a b) _ _ (a + b) (omega arith) (omega arith)
-
-pub lower-mag : (x : ℤ) (n : ℕ) → mag (x -ℤ pos n) ≤ mag x + n + 1
-lower-mag (pos a) zero = omega arith
-lower-mag (pos a) (suc n) = omega (arith, sub-mag a (suc n))
-lower-mag (negsuc a) zero = omega (arith, sub-mag zero (suc a))
-lower-mag (negsuc a) (suc n) = omega arith

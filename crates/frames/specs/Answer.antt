@@ -7,9 +7,9 @@ use lib.ListN.{length, getD, replicate}
 use Rattle.refusals.specs.Numbers.{causeNumber}
 use Rattle.frames.specs.declared.answer.Reply.{Reply}
 use Rattle.frames.specs.declared.answer.Reply.the-variants.{Accepted, Refused}
-use Rattle.frames.specs.declared.level.Setting.{Setting}
+use Rattle.levels.specs.declared.Setting.{Setting}
 use Rattle.frames.specs.Fields.{ascii, bytes32, bytes64, bits32}
-use Rattle.frames.specs.Level.{levelOf}
+use Rattle.levels.specs.Level.{levelOf}
 
 -- a reply that is no refusal
 unfoldable pub accepted : Reply → Bool

@@ -1,4 +1,3 @@
 pub mod Fields
-pub mod Level
 pub mod Question
 pub mod Answer

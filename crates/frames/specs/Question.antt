@@ -3,7 +3,7 @@ use mathlib.Core.Bool.{Bool, _&&_}
 use mathlib.Core.List.{List, [], _∷_}
 use Prim.Native.Char.{code}
 use Prim.Native.Nat.{ℕ}
-use Rattle.frames.specs.declared.level.Setting.{Setting}
+use Rattle.levels.specs.declared.Setting.{Setting}
 use Rattle.frames.specs.Fields.{ascii, byte, part, zeros, sameBytes, unsigned16, unsigned64, signed16}
 
 -- 0–3: the letters WKO1

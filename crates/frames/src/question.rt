@@ -4,7 +4,7 @@ ghost use Prim.Native.Nat.{_+_, _≤_, _<_};
 ghost use Rattle.frames.specs.Fields.{part, zeros, unsigned16, unsigned64};
 ghost use Rattle.frames.specs.Question.{isQuestion, numberIn, settingIn, windowIn, reservedB, reservedS, reservedQ};
 use crate::field;
-use crate::level::Setting;
+use levels::Setting;
 
 // Bytes 0–3 are WKO1.
 pub fn is_question(f: [u8; 40]) -> bool

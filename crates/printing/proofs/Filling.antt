@@ -18,7 +18,7 @@ use Rattle.successors.specs.Rules.{ruleOf, inForm, isRule, step}
 use Rattle.successors.proofs.Steppable.{says-steppable}
 use Rattle.successors.proofs.StepForm.{step-length, step-in-form}
 use Rattle.frames.specs.Answer.{newest}
-use Rattle.frames.specs.Level.{levelOf}
+use Rattle.levels.specs.Level.{levelOf}
 use Rattle.printing.specs.Writing.{written, Wrote}
 use Rattle.printing.specs.Printing.{lineText, stepLine, Printed, onward, lastLine, below, pageOf, over, pageIn, laidOut}
 use Rattle.printing.specs.Printing.{nextPage}

@@ -16,12 +16,12 @@ use Rattle.weak_orders.proofs.Padded.{take-padded, length-padded}
 use Rattle.weak_orders.proofs.Tests.{_∈_, here, there, by-test, says-and, says-eq, says-itself}
 use Rattle.ranking.specs.Counts.{a}
 use Rattle.successors.specs.NextSymbol.{steppable}
-use Rattle.successors.specs.Rules.{ruleOf, inForm, isRule, step}
-use Rattle.universal_cycle.specs.Round.{WeakOrder, Tour}
+use Rattle.successors.specs.Rules.{ruleOf, inForm, WeakOrder, isRule, step}
+use Rattle.universal_cycle.specs.Round.{Tour}
 use Rattle.universal_cycle.proofs.Rounds.{universal-cycle}
 use Rattle.refusals.specs.declared.Cause.{Cause}
 use Rattle.refusals.specs.declared.Cause.the-variants.{WindowLength, RuleNumber, NotWeakOrder, LevelSetting, SheetMalformed}
-use Rattle.frames.specs.Level.{settingOk}
+use Rattle.levels.specs.Level.{settingOk}
 use Rattle.sheets.specs.declared.judge.Round.{Round}
 use Rattle.refusals.specs.declared.Verdict.the-variants.{Accepted}
 use Rattle.sheets.specs.declared.judge.Judged.{Judged}

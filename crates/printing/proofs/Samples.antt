@@ -4,7 +4,7 @@ use Rattle.weak_orders.specs.Window.{iter, padded}
 use Rattle.ranking.specs.Counts.{a}
 use Rattle.successors.specs.Rules.{ruleOf, inForm, isRule, step}
 use Rattle.frames.specs.Fields.{sameBytes}
-use Rattle.frames.specs.Level.{levelOf, settingOk}
+use Rattle.levels.specs.Level.{levelOf, settingOk}
 use Rattle.frames.specs.Answer.{newest}
 use Rattle.decimals.specs.Text.{digits, decimal, signed, commaed, joined}
 use Rattle.decimals.specs.Reading.{further, next, both, behind, startsWith, closed, ended, run, value, wellWritten}

@@ -12,10 +12,10 @@ use lib.Seq.{getD-take}
 use lib.Signed.{mag}
 use Rattle.weak_orders.proofs.Tests.{_∈_, here, there, by-test}
 use Rattle.weak_orders.proofs.Lists.{mem-take, in-getD}
-use Rattle.frames.specs.declared.level.Setting.{Setting}
-use Rattle.frames.specs.Level.{spacings, levelOf}
+use Rattle.levels.specs.declared.Setting.{Setting}
+use Rattle.levels.specs.Level.{spacings, levelOf}
 use Rattle.frames.specs.Answer.{newest}
-use Rattle.frames.proofs.Signed.{lower-mag}
+use Rattle.levels.proofs.Sizes.{lower-mag}
 use Rattle.decimals.specs.Text.{decimal, signed, commaed, joined}
 use Rattle.printing.specs.Printing.{lineText, stepLine, lastLine}
 use Rattle.printing.specs.declared.Printing.{Printing}

@@ -6,8 +6,8 @@ use mathlib.Core.Path.{_≡_}
 use Prim.Native.Nat.{ℕ, _≤_}
 use lib.ListN.{length, take}
 use Rattle.ranking.specs.Counts.{a}
-use Rattle.successors.specs.Rules.{ruleOf, step}
-use Rattle.universal_cycle.specs.Round.{WeakOrder, Tour}
+use Rattle.successors.specs.Rules.{ruleOf, WeakOrder, step}
+use Rattle.universal_cycle.specs.Round.{Tour}
 use Rattle.refusals.specs.declared.Verdict.the-variants.{Accepted}
 use Rattle.printing.specs.declared.Printing.{Printing}
 use Rattle.sheets.specs.Sheet.{RawSheet, IsText, parse}

@@ -10,8 +10,8 @@ use Rattle.ranking.specs.Counts.{a}
 use Rattle.successors.specs.NextSymbol.{steppable}
 use Rattle.successors.specs.Rules.{ruleOf, step}
 use Rattle.refusals.specs.Numbers.{causeNumber}
-use Rattle.frames.specs.declared.level.Setting.{Setting}
-use Rattle.frames.specs.Level.{levelOf}
+use Rattle.levels.specs.declared.Setting.{Setting}
+use Rattle.levels.specs.Level.{levelOf}
 use Rattle.frames.specs.Fields.{ascii}
 use Rattle.frames.specs.Answer.{newest}
 use Rattle.sheets.specs.declared.judge.Round.{Round}

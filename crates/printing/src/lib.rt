@@ -1,5 +1,5 @@
 // The printed round, page by page: the opening, and then lines into a lent slice, as many as have room.
-// Rests on sheets for what becomes of a sheet, successors for the steps, frames for levels and ranking for a(n). Writes slices only; the
+// Rests on sheets for what becomes of a sheet, successors for the steps, levels and ranking for a(n). Writes slices only; the
 // program `round` does the input and output.
 mod writer;
 
@@ -11,8 +11,7 @@ ghost use Rattle.weak_orders.specs.Window.{isLength};
 ghost use Rattle.successors.specs.NextSymbol.{steppable};
 ghost use Rattle.printing.specs.Writing.{Wrote, Counts};
 ghost use Rattle.printing.specs.Printing.{lineText, lineCount, opening, started, onward, lastLine, nextPage};
-use frames::level;
-use frames::level::Setting;
+use levels::Setting;
 use refusals::Verdict;
 use sheets::judge::Judged;
 
@@ -124,7 +123,7 @@ fn put_line(out: &mut [u8], at: usize, p: Printing) -> usize
     let w = p.window;
     let setting = p.setting;
     let symbol = w[n - 1];
-    let level = level::level(p.rule, setting, symbol);
+    let level = levels::level(p.rule, setting, symbol);
     put_row(out, at, p.done, symbol, level, w, n)
 }
 

@@ -18,8 +18,8 @@ use Rattle.weak_orders.proofs.FormTests.{says-length}
 use Rattle.successors.specs.Rules.{inForm, isRule}
 use Rattle.successors.proofs.RuleNumbers.{form-bound}
 use Rattle.refusals.specs.declared.Cause.the-variants.{WindowLength, RuleNumber, NotWeakOrder, LevelSetting, SheetMalformed}
-use Rattle.frames.specs.declared.level.Setting.{Setting}
-use Rattle.frames.specs.Level.{settingOk}
+use Rattle.levels.specs.declared.Setting.{Setting}
+use Rattle.levels.specs.Level.{settingOk}
 use Rattle.refusals.specs.declared.Verdict.the-variants.{Accepted}
 use Rattle.sheets.specs.Sheet.{RawSheet, parse}
 use Rattle.sheets.specs.Held.{sheetHeld, parsedOf}

@@ -5,12 +5,11 @@ use Prim.Native.Nat.{ℕ, _≤_}
 use native.Mathlib.Omega.{arith}
 use lib.Dec.{leb}
 use lib.IntN.{ℤ, pos, negsuc}
-use lib.Signed.{leZ}
 use mir.Syntax.{w16}
 use mir.Val.{SFits}
 use borrow.Author.Tests.{leb-true}
 use Rattle.weak_orders.proofs.Tests.{by-test, says-and, says-itself}
-use Rattle.frames.specs.Level.{topOk, spacingOk, settingOk}
+use Rattle.levels.specs.Level.{topOk, spacingOk, settingOk}
 use Rattle.sheets.specs.declared.judge.SettingTest.{SettingTest}
 use Rattle.sheets.specs.Judgement.{settingOf, settingTest, noSetting}
 

@@ -10,8 +10,8 @@ use Rattle.weak_orders.specs.Window.{padded}
 use Rattle.successors.specs.Rules.{inForm, isRule}
 use Rattle.refusals.specs.declared.Cause.{Cause}
 use Rattle.refusals.specs.declared.Cause.the-variants.{WindowLength, RuleNumber, NotWeakOrder, LevelSetting, SheetMalformed}
-use Rattle.frames.specs.declared.level.Setting.{Setting}
-use Rattle.frames.specs.Level.{settingOk}
+use Rattle.levels.specs.declared.Setting.{Setting}
+use Rattle.levels.specs.Level.{settingOk}
 use Rattle.sheets.specs.declared.judge.Round.{Round}
 use Rattle.refusals.specs.declared.Verdict.the-variants.{Accepted, Refused}
 use Rattle.sheets.specs.declared.judge.Judged.{Judged}

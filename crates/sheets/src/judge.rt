@@ -5,12 +5,10 @@ ghost use mathlib.Core.Path.{_≡_};
 ghost use Prim.Native.Nat.{_≤_};
 ghost use lib.ListN.{take};
 ghost use Rattle.weak_orders.specs.Window.{isLength, padded};
-ghost use Rattle.frames.specs.Level.{topOk, spacingOk};
 ghost use Rattle.sheets.specs.Judgement.{symbolOf, settingTest, noSetting, noRound, refusal, rawOf, judged, judgedText};
 use crate::sheet;
 use crate::sheet::Sheet;
-use frames::level;
-use frames::level::Setting;
+use levels::Setting;
 use refusals::Cause;
 use refusals::Verdict;
 
@@ -70,19 +68,6 @@ fn symbols(items: [u32; 16], n: usize) -> [u8; 16]
     w
 }
 
-// Test 9 on the top alone, and on the spacing alone.
-pub fn top_ok(top: i32) -> bool
-    ensures { λ r. ⌜ r ≡ topOk top ⌝ }
-{
-    (-10000 <= top) & (top <= 2000)
-}
-
-pub fn spacing_ok(spacing: u32) -> bool
-    ensures { λ r. ⌜ r ≡ spacingOk spacing ⌝ }
-{
-    (1 <= spacing) & (spacing <= 500)
-}
-
 // A level setting that passes test 9, or none.
 struct SettingTest {
     ok: bool,
@@ -103,17 +88,17 @@ fn setting_test(n: usize, top: i32, spacing: u32) -> SettingTest
     requires { ⌜ isLength n ≡ true ⌝ }
     ensures { λ r. ⌜ r ≡ settingTest n top spacing ⌝ }
 {
-    if !top_ok(top) {
+    if !levels::top_ok(top) {
         return no_setting();
     }
-    if !spacing_ok(spacing) {
+    if !levels::spacing_ok(spacing) {
         return no_setting();
     }
     let setting = Setting {
         top: top as i16,
         spacing: spacing as u16,
     };
-    if !level::setting_ok(n, setting) {
+    if !levels::setting_ok(n, setting) {
         return no_setting();
     }
     SettingTest {

@@ -20,9 +20,9 @@ use Rattle.refusals.specs.declared.Cause.{Cause}
 use Rattle.refusals.specs.declared.Cause.the-variants.{FrameLength, FrameHeader, FrameKind, ReservedByte, WindowLength, RuleNumber}
 use Rattle.refusals.specs.declared.Cause.the-variants.{NotWeakOrder, LevelSetting, NotBegun, StepNumber, RoundFinished}
 use Rattle.frames.specs.declared.answer.Reply.the-variants.{Refused}
-use Rattle.frames.specs.declared.level.Setting.{Setting}
+use Rattle.levels.specs.declared.Setting.{Setting}
 use Rattle.frames.specs.Fields.{zeros}
-use Rattle.frames.specs.Level.{settingOk}
+use Rattle.levels.specs.Level.{settingOk}
 use Rattle.frames.specs.Question.{isQuestion, kindIn, letterB, letterS, letterQ, numberIn, reservedB, reservedS, reservedQ}
 use Rattle.frames.specs.Answer.{accepted, stateReply}
 use Rattle.frames.proofs.Padding.{unused-padded}

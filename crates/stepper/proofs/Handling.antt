@@ -15,7 +15,7 @@ use Rattle.refusals.specs.declared.Cause.{Cause}
 use Rattle.refusals.specs.declared.Cause.the-variants.{ShortBuffer, FrameLength, FrameHeader, ReservedByte}
 use Rattle.refusals.specs.declared.Cause.the-variants.{StepNumber, RoundFinished}
 use Rattle.frames.specs.declared.answer.Reply.{Reply}
-use Rattle.frames.specs.Level.{settingOk}
+use Rattle.levels.specs.Level.{settingOk}
 use Rattle.frames.specs.Question.{isQuestion, kindIn, letterB, lengthIn, ruleIn, settingIn, windowIn, reservedB}
 use Rattle.frames.specs.Answer.{accepted}
 use Rattle.stepper.specs.declared.session.Exchanged.{Exchanged}

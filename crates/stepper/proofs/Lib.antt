@@ -4,5 +4,4 @@ pub mod Handling
 pub mod Standing
 pub mod Counting
 pub mod ExactlyOnce
-pub mod WindowLevels
 pub mod Worked

@@ -13,8 +13,8 @@ use Rattle.weak_orders.specs.Window.{iter, padded}
 use Rattle.weak_orders.proofs.Padded.{take-padded}
 use Rattle.weak_orders.proofs.Tests.{says-and, says-itself, says-eq}
 use Rattle.ranking.specs.Counts.{a}
-use Rattle.successors.specs.Rules.{ruleOf, step}
-use Rattle.universal_cycle.specs.Round.{Tour, WeakOrder}
+use Rattle.successors.specs.Rules.{ruleOf, WeakOrder, step}
+use Rattle.universal_cycle.specs.Round.{Tour}
 use Rattle.universal_cycle.proofs.Rounds.{universal-cycle}
 use Rattle.refusals.specs.declared.Cause.the-variants.{ShortBuffer}
 use Rattle.frames.specs.Fields.{part}

@@ -9,14 +9,14 @@ use lib.Dec.{leb, ltb, eqb}
 use lib.ListN.{length, take, drop, replicate, getElem?}
 use Rattle.weak_orders.specs.Window.{iter, different, isLength, padded}
 use Rattle.ranking.specs.Counts.{a}
-use Rattle.successors.specs.Rules.{ruleOf, isRule, step}
-use Rattle.universal_cycle.specs.Round.{Tour, WeakOrder}
+use Rattle.successors.specs.Rules.{ruleOf, WeakOrder, isRule, step}
+use Rattle.universal_cycle.specs.Round.{Tour}
 use Rattle.refusals.specs.Numbers.{causeNumber}
 use Rattle.refusals.specs.declared.Cause.{Cause}
 use Rattle.refusals.specs.declared.Cause.the-variants.{ShortBuffer, FrameLength, FrameHeader, ReservedByte, StepNumber, RoundFinished}
 use Rattle.frames.specs.declared.answer.Reply.{Reply}
 use Rattle.frames.specs.declared.answer.Reply.the-variants.{Refused}
-use Rattle.frames.specs.Level.{settingOk}
+use Rattle.levels.specs.Level.{settingOk}
 use Rattle.frames.specs.Question.{isQuestion, kindIn, letterB, letterS, lengthIn, ruleIn, numberIn, settingIn, windowIn}
 use Rattle.frames.specs.Question.{reservedB, reservedS}
 use Rattle.frames.specs.Answer.{accepted, wka1, answerBytes, stepReply}

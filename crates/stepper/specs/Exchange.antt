@@ -14,7 +14,7 @@ use Rattle.refusals.specs.declared.Cause.the-variants.{RuleNumber, NotWeakOrder
 use Rattle.frames.specs.declared.answer.Reply.{Reply}
 use Rattle.frames.specs.declared.answer.Reply.the-variants.{Refused}
 use Rattle.frames.specs.Fields.{zeros}
-use Rattle.frames.specs.Level.{settingOk}
+use Rattle.levels.specs.Level.{settingOk}
 use Rattle.frames.specs.Question.{isQuestion, kindIn, letterB, letterS, letterQ, lengthIn, ruleIn, numberIn, settingIn, windowIn}
 use Rattle.frames.specs.Question.{reservedB, reservedS, reservedQ}
 use Rattle.frames.specs.Answer.{accepted, answerBytes, stepReply, stateReply}

@@ -1,4 +1,3 @@
 pub mod Exchange
 pub mod ExactlyOnce
 pub mod Example
-pub mod Levels

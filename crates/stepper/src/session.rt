@@ -11,7 +11,7 @@ ghost use Rattle.successors.specs.Rules.{ruleOf};
 ghost use Rattle.frames.specs.Fields.{zeros};
 ghost use Rattle.stepper.specs.Exchange.{replyIf, beginReply, begunIf, hasBegun, fresh, refuse, onward, stepped, stepOf, queryOf};
 use frames::answer::Reply;
-use frames::level::Setting;
+use levels::Setting;
 use refusals::Cause;
 use successors::Next;
 
@@ -59,7 +59,7 @@ fn reply_if(s: Session, formed: bool) -> Reply
     if !(formed & unused_zero(w, n)) {
         return Reply::Refused(Cause::NotWeakOrder);
     }
-    if !frames::level::setting_ok(n, setting) {
+    if !levels::setting_ok(n, setting) {
         return Reply::Refused(Cause::LevelSetting);
     }
     Reply::Accepted {
@@ -151,7 +151,7 @@ impl Session {
         let setting = self.setting;
         let w = self.window;
         let symbol = w[n - 1];
-        let level = frames::level::level(rule, setting, symbol);
+        let level = levels::level(rule, setting, symbol);
         Exchanged {
             session: self,
             reply: Reply::Accepted { symbol, level },

@@ -1,9 +1,10 @@
 -- The three successor rules (document 01, "Windows"; 002, Algorithm 1 and section 4), and one step.
-use mathlib.Core.Bool.{Bool, false, cond, not, _&&_, _||_}
+use mathlib.Core.Bool.{Bool, true, false, cond, not, _&&_, _||_}
 use mathlib.Core.List.{List, [], _∷_}
+use mathlib.Core.Path.{_≡_}
 use Prim.Native.Nat.{ℕ, zero, suc, _+_, _-_}
 use lib.Dec.{leb, ltb, eqb}
-use lib.ListN.{take, drop}
+use lib.ListN.{length, take, drop}
 use Rattle.weak_orders.specs.Window.{all, num, isRank, isHeight, shifted}
 use Rattle.weak_orders.specs.Rotation.{start, isGreatest}
 
@@ -90,6 +91,10 @@ ruleOf r w = cond (eqb r 1) (rule1 w) (cond (eqb r 2) (rule2 w) (rule3 w))
 unfoldable pub inForm : ℕ → List ℕ → Bool
 unfolding isRank isHeight
 inForm r w = cond (eqb r 1) (isRank w) (isHeight w)
+
+-- w is a weak order of n in the form of the rule r
+abbrev pub WeakOrder : ℕ → ℕ → List ℕ → Type 0
+WeakOrder n r w = (length w ≡ n) × (inForm r w ≡ true)
 
 -- document 01's rules are 1, 2 and 3
 unfoldable pub isRule : ℕ → Bool

@@ -6,9 +6,9 @@ use Rattle.weak_orders.specs.Window.{isRank, heights}
 use Rattle.weak_orders.specs.Rotation.{start}
 use Rattle.ranking.specs.Counts.{a}
 use Rattle.ranking.specs.Dictionary.{place}
-use Rattle.successors.specs.Rules.{rule1, rule2, rule3, ruleOf, inForm, isRule, step}
+use Rattle.successors.specs.Rules.{rule1, rule2, rule3, ruleOf, inForm, WeakOrder, isRule, step}
 use Rattle.universal_cycle.specs.Examples.{WorkedExamples, GivenValues, roundOf, SmallRounds}
-use Rattle.universal_cycle.specs.Round.{Tour, WeakOrder}
+use Rattle.universal_cycle.specs.Round.{Tour}
 use Rattle.universal_cycle.proofs.Rounds.{universal-cycle}
 
 pub worked-examples : WorkedExamples

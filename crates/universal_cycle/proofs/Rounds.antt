@@ -14,10 +14,10 @@ use Rattle.weak_orders.proofs.Tests.{says-itself, says-and}
 use Rattle.ranking.specs.Counts.{a}
 use Rattle.ranking.specs.Numbering.{Numbering}
 use Rattle.ranking.proofs.Places.{heights-numbered, ranks-numbered}
-use Rattle.successors.specs.Rules.{rule1, rule2, rule3, ruleOf, inForm, isRule, step}
+use Rattle.successors.specs.Rules.{rule1, rule2, rule3, ruleOf, inForm, WeakOrder, isRule, step}
 use Rattle.successors.proofs.FirstSymbol.{change, turn-change}
 use Rattle.successors.proofs.StepForm.{step-length, step-in-form}
-use Rattle.universal_cycle.specs.Round.{Tour, WeakOrder, UniversalCycle, Connected}
+use Rattle.universal_cycle.specs.Round.{Tour, UniversalCycle, Connected}
 use Rattle.universal_cycle.proofs.Agreeing.{same-tour}
 use Rattle.universal_cycle.proofs.Joined.{Joined, one-cycle}
 use Rattle.universal_cycle.proofs.RotationClasses1.{joined1}

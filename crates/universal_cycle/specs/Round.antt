@@ -3,10 +3,9 @@ use mathlib.Core.Bool.{true}
 use mathlib.Core.List.{List}
 use mathlib.Core.Path.{_≡_}
 use Prim.Native.Nat.{ℕ, _≤_}
-use lib.ListN.{length}
 use Rattle.weak_orders.specs.Window.{iter}
 use Rattle.ranking.specs.Counts.{a}
-use Rattle.successors.specs.Rules.{ruleOf, inForm, isRule, step}
+use Rattle.successors.specs.Rules.{ruleOf, WeakOrder, isRule, step}
 
 -- of N steps of f from s exactly one leads to w
 pub record Once {A : Type 0} (f : A → A) (N : ℕ) (s w : A) : Type 0 where
@@ -21,10 +20,6 @@ pub record Tour {A : Type 0} (P : A → Type 0) (f : A → A) (N : ℕ) (s : A) 
   pub closed : iter f N s ≡ s
   pub kept : (k : ℕ) → P (iter f k s)
   pub once : (w : A) → P w → Once f N s w
-
--- w is a weak order of n in the form of the rule r
-abbrev pub WeakOrder : ℕ → ℕ → List ℕ → Type 0
-WeakOrder n r w = (length w ≡ n) × (inForm r w ≡ true)
 
 -- a round: from any weak order of n in the rule's form, a(n) steps meet each weak order of n once and end at the start
 abbrev pub UniversalCycle : Type 0

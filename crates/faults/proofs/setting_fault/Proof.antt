@@ -6,7 +6,7 @@ use mir.Syntax.{w32}
 use mir.Val.{SFits}
 use borrow.Author.Tests.{not-true, not-false}
 use borrow.Author.Needs.{needs}
-use Rattle.frames.specs.Level.{topOk}
+use Rattle.levels.specs.Level.{topOk}
 use Rattle.faults.proofs.setting_fault.Statement.{statement}
 use Rattle.faults.proofs.setting_fault.Tie as tie
 

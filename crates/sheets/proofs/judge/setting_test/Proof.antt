@@ -6,7 +6,7 @@ use mir.Facts.{toZ-ofZ}
 use mir.Syntax.{w16}
 use mir.Val.{SFits}
 use borrow.Author.Tests.{not-true, not-false}
-use Rattle.frames.specs.Level.{topOk, spacingOk, settingOk}
+use Rattle.levels.specs.Level.{topOk, spacingOk, settingOk}
 use Rattle.sheets.specs.Judgement.{settingOf}
 use Rattle.sheets.proofs.Settings.{top-fits, not-ok, passes, top-out, spacing-out, spacing-below}
 use borrow.Author.Needs.{needs}

@@ -6,7 +6,7 @@ use borrow.Author.Tests.{not-true, not-false}
 use Rattle.weak_orders.specs.Window.{isLength}
 use Rattle.successors.specs.Rules.{isRule}
 use Rattle.frames.specs.Fields.{zeros}
-use Rattle.frames.specs.Level.{settingOk}
+use Rattle.levels.specs.Level.{settingOk}
 use Rattle.stepper.specs.Exchange.{replyIf}
 use borrow.Author.Needs.{needs}
 use Rattle.stepper.proofs.session.reply_if.Statement.{statement}

@@ -8,9 +8,9 @@ use lib.IntN.{ℤ, pos, negsuc, subℕ, _-ℤ_}
 use lib.Signed.{leZ, ltZ}
 use borrow.Author.Tests.{le-ltb}
 use Rattle.weak_orders.proofs.Tests.{says-and, says-itself}
-use Rattle.frames.specs.declared.level.Setting.{Setting}
-use Rattle.frames.specs.Level.{spacings, levelOf, settingOk}
-use Rattle.frames.proofs.Differences.{as-difference, lower-difference, says-lt-difference, says-le-difference}
+use Rattle.levels.specs.declared.Setting.{Setting}
+use Rattle.levels.specs.Level.{spacings, levelOf, settingOk}
+use Rattle.levels.proofs.Differences.{as-difference, lower-difference, says-lt-difference, says-le-difference}
 use Rattle.weak_orders.proofs.Tests.{says-le}
 
 -- no integer is below itself

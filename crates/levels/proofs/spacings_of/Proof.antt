@@ -1,9 +1,9 @@
 -- `spacings_of` meets its contract, by the cases of the rule and of symbol 0. Assumes nothing.
 use borrow.Author.Tests.{eq-eqb, ne-eqb}
-use Rattle.frames.specs.Level.{spacings}
+use Rattle.levels.specs.Level.{spacings}
 use borrow.Author.Needs.{needs}
-use Rattle.frames.proofs.level.spacings_of.Statement.{statement}
-use Rattle.frames.proofs.level.spacings_of.Tie as tie
+use Rattle.levels.proofs.spacings_of.Statement.{statement}
+use Rattle.levels.proofs.spacings_of.Tie as tie
 
 returns : tie.Need-returns
 unfolding spacings

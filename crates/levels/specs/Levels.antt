@@ -5,9 +5,9 @@ use mathlib.Core.Path.{_≡_}
 use Prim.Native.Nat.{ℕ, _<_}
 use lib.IntN.{pos, negsuc}
 use lib.Signed.{leZ, ltZ}
-use Rattle.universal_cycle.specs.Round.{WeakOrder}
-use Rattle.frames.specs.declared.level.Setting.{Setting}
-use Rattle.frames.specs.Level.{levelOf, settingOk}
+use Rattle.successors.specs.Rules.{WeakOrder}
+use Rattle.levels.specs.declared.Setting.{Setting}
+use Rattle.levels.specs.Level.{levelOf, settingOk}
 
 pub record Levels (rule : ℕ) (s : Setting) (w : List ℕ) : Type 0 where
   -- each lies in -12000 … 2000

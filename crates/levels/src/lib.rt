@@ -1,10 +1,11 @@
-// The level setting of a round, and the level of a symbol.
+// The level setting of a round, and the level of a symbol. The only crate that knows how a level is made.
+// Rests on weak_orders for test 6, and on successors for the form that a rule's windows have.
 ghost use mathlib.Core.Bool.{_&&_};
 ghost use mathlib.Core.Path.{_≡_};
 ghost use Prim.Native.Nat.{_*_};
 ghost use lib.IntN.{pos, _-ℤ_};
 ghost use Rattle.weak_orders.specs.Window.{isLength};
-ghost use Rattle.frames.specs.Level.{spacings, levelOf, settingOk};
+ghost use Rattle.levels.specs.Level.{spacings, levelOf, topOk, spacingOk, settingOk};
 
 // A level setting, in hundredths of a dBm.
 #[repr(C)]
@@ -43,6 +44,19 @@ pub fn level(rule: u8, setting: Setting, symbol: u8) -> i32
     lowered(setting, spacings_of(rule, symbol))
 }
 
+// Test 9 on the top alone, and on the spacing alone. They are wider than in a setting, for values that are not narrowed yet.
+pub fn top_ok(top: i32) -> bool
+    ensures { λ r. ⌜ r ≡ topOk top ⌝ }
+{
+    (-10000 <= top) & (top <= 2000)
+}
+
+pub fn spacing_ok(spacing: u32) -> bool
+    ensures { λ r. ⌜ r ≡ spacingOk spacing ⌝ }
+{
+    (1 <= spacing) & (spacing <= 500)
+}
+
 // Test 9, for a number of symbols that passes test 6.
 pub fn setting_ok(n: usize, setting: Setting) -> bool
     ensures { λ r. ⌜ r ≡ (isLength n && settingOk n setting) ⌝ }
@@ -53,5 +67,5 @@ pub fn setting_ok(n: usize, setting: Setting) -> bool
     let top = setting.top;
     let spacing = setting.spacing;
     let lowest = lowered(setting, (n - 1) as u8);
-    ((-10000 <= top) & (top <= 2000)) & (((1 <= spacing) & (spacing <= 500)) & (-12000 <= lowest))
+    top_ok(top as i32) & (spacing_ok(spacing as u32) & (-12000 <= lowest))
 }

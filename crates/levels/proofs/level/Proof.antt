@@ -1,10 +1,10 @@
 -- `level` meets its contract, by those of its callees. Assumes nothing.
-use Rattle.frames.specs.Level.{levelOf}
+use Rattle.levels.specs.Level.{levelOf}
 use mir.Facts.{toZ-ofZ}
 use mir.Syntax.{w32}
 use borrow.Author.Needs.{needs, sfits-of}
-use Rattle.frames.proofs.level.level.Statement.{statement}
-use Rattle.frames.proofs.level.level.Tie as tie
+use Rattle.levels.proofs.level.Statement.{statement}
+use Rattle.levels.proofs.level.Tie as tie
 
 spacings-of-requires : tie.Need-spacings-of-requires
 spacings-of-requires c κs = search needs

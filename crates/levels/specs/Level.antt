@@ -4,7 +4,7 @@ use Prim.Native.Nat.{ℕ, _-_, _*_}
 use lib.Dec.{leb, eqb}
 use lib.IntN.{ℤ, pos, negsuc, _-ℤ_}
 use lib.Signed.{leZ}
-use Rattle.frames.specs.declared.level.Setting.{Setting}
+use Rattle.levels.specs.declared.Setting.{Setting}
 
 -- document 01's d: symbol - 1 in rank form (rule 1), the symbol itself in height form (rules 2 and 3)
 unfoldable pub spacings : ℕ → ℕ → ℕ

@@ -7,9 +7,9 @@ use mir.Facts.{toZ-ofZ, toZ-pos, sfits-widen}
 use mir.Syntax.{w16, w32}
 use mir.Val.{SFits}
 use borrow.Author.Needs.{needs}
-use Rattle.frames.proofs.Signed.{lower-mag}
-use Rattle.frames.proofs.level.lowered.Statement.{statement}
-use Rattle.frames.proofs.level.lowered.Tie as tie
+use Rattle.levels.proofs.Sizes.{lower-mag}
+use Rattle.levels.proofs.lowered.Statement.{statement}
+use Rattle.levels.proofs.lowered.Tie as tie
 
 below : (s : tie.Start) → s .args .count * s .args .setting .spacing ≤ 255 * 65535
 below s =

@@ -10,9 +10,9 @@ use Rattle.weak_orders.proofs.HeightForm.{height-below}
 use Rattle.weak_orders.proofs.RankForm.{says-rank, rank-positive, rank-le-length}
 use Rattle.weak_orders.proofs.Tests.{_∈_, by-test}
 use Rattle.successors.specs.Rules.{inForm}
-use Rattle.frames.specs.Level.{spacings}
-use Rattle.frames.proofs.Levels.{passed, level-range, level-falls, level-same}
-use Rattle.stepper.specs.Levels.{LevelsOk}
+use Rattle.levels.specs.Level.{spacings}
+use Rattle.levels.proofs.Levels.{passed, level-range, level-falls, level-same}
+use Rattle.levels.specs.Levels.{LevelsOk}
 
 -- the spacings below the top: fewer than there are symbols, and in the order of the symbols
 module _ (rule : ℕ) (w : List ℕ) (form : inForm rule w ≡ true) where

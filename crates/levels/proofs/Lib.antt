@@ -1,0 +1,4 @@
+pub mod Differences
+pub mod Levels
+pub mod Sizes
+pub mod WindowLevels
