@@ -21,6 +21,12 @@ static void put_number(long x)
         buffer[used++] = digits[--k];
 }
 
+/* The nearest multiple of 25; the quotient is cut off towards zero. */
+static int rounded(int x)
+{
+    return (x < 0 ? x - 12 : x + 12) / 25 * 25;
+}
+
 int main(void)
 {
     static const long counts[9] = {1, 1, 3, 13, 75, 541, 4683, 47293, 545835};
@@ -41,7 +47,7 @@ int main(void)
         buffer[used++] = ' ';
         put_number(w[n - 1]);
         buffer[used++] = ' ';
-        put_number(top - (rule == 1 ? w[n - 1] - 1 : w[n - 1]) * spacing);
+        put_number(rounded(top - (rule == 1 ? w[n - 1] - 1 : w[n - 1]) * spacing));
         for (int i = 0; i < n; i++) {
             buffer[used++] = i == 0 ? ' ' : ',';
             put_number(w[i]);

@@ -121,11 +121,14 @@ mistake 9 "$line" "top too high" "${title}2 1 2001 100 1,1\n"
 mistake 9 "$line" "top too low" "${title}2 1 -10001 100 1,1\n"
 mistake 9 "$line" "thousandths of a dBm" "${title}2 1 -90000 1000 1,1\n"
 
-line="spacing is not 1 to 500, in hundredths of a dB"
+line="spacing is not 25 to 500, in hundredths of a dB"
 mistake 9 "$line" "spacing 0" "${title}2 1 -1000 0 1,1\n"
+mistake 9 "$line" "a tenth of a dB" "${title}2 1 -1000 10 1,1\n"
+mistake 9 "$line" "spacing too small for one level" "${title}1 1 -1000 24 1\n"
 mistake 9 "$line" "spacing too large" "${title}2 1 -1000 501 1,1\n"
 
-line="the lowest level, top - (n - 1) * spacing, is below -12000"
+line="top - (n - 1) * spacing, the lowest level before it is rounded, is below -12000"
+mistake 9 "$line" "a lowest level that would round to -12000" "${title}6 1 -10000 401 1,1,1,1,1,1\n"
 mistake 9 "$line" "a lowest level of -12500" "${title}6 1 -10000 500 1,1,1,1,1,1\n"
 
 # make run fails where its sheet is refused, and says why; a terminal is told that a sheet is read.

@@ -295,12 +295,19 @@ int ref_fillable_by_counting(const uint8_t *p, int n)
 
 int ref_setting_ok(int n, long top, long spacing)
 {
-    return top >= -10000 && top <= 2000 && spacing >= 1 && spacing <= 500 && top - (n - 1) * spacing >= -12000;
+    return top >= -10000 && top <= 2000 && spacing >= 25 && spacing <= 500 && top - (n - 1) * spacing >= -12000;
+}
+
+/* Of the multiple of 25 that is not above x and the next, the one that is nearer. */
+static long nearest_multiple(long x)
+{
+    long above = ((x % 25) + 25) % 25;
+    return above < 25 - above ? x - above : x - above + 25;
 }
 
 long ref_level(int rule, long top, long spacing, int symbol)
 {
-    return top - (rule == 1 ? symbol - 1 : symbol) * spacing;
+    return nearest_multiple(top - (rule == 1 ? symbol - 1 : symbol) * spacing);
 }
 
 void ref_random_heights(uint64_t (*next)(void), int n, uint8_t *out)

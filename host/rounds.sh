@@ -4,7 +4,7 @@ set -eu
 sheet=target/host/sheet
 printed=target/host/printed
 trap 'rm -f $sheet $printed' EXIT
-for second in '8 1 -1000 100 1,1,1,1,1,1,1,1' '8 2 -1000 100 0,0,0,0,0,0,0,0' '8 3 -1000 100 0,0,0,0,0,0,0,0'; do
+for second in '8 1 -1000 100 1,1,1,1,1,1,1,1' '8 2 -1013 37 0,0,0,0,0,0,0,0' '8 3 113 26 0,0,0,0,0,0,0,0'; do
   printf 'n rule top spacing start\n%s\n' "$second" >$sheet
   target/host/print_round <$sheet >$printed
   target/bin/round <$sheet | cmp - $printed

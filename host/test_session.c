@@ -60,18 +60,24 @@ static void random_window(int rule, int n, uint8_t *w)
         memcpy(w, h, (size_t)n);
 }
 
-static const int16_t tops[] = {-32768, -10001, -10000, -9999, -1000, 0, 1999, 2000, 2001, 32767};
-static const uint16_t spacings[] = {0, 1, 2, 100, 133, 134, 499, 500, 501, 65535};
+/* At the edges of test 9 and of rounding. */
+static const int16_t tops[] = {-32768, -10001, -10000, -9999, -1000, -13, -12, 0, 12, 13, 37, 38, 1988, 1999, 2000, 2001, 32767};
+static const uint16_t spacings[] = {0, 1, 10, 24, 25, 26, 100, 133, 134, 400, 401, 499, 500, 501, 65535};
+
+/* At an edge, or any top and any spacing that pass for 16 symbols, most of them no multiples of 25. */
+static struct wko_setting random_setting(int edge)
+{
+    struct wko_setting s;
+    s.top = edge ? tops[random_below(sizeof tops / sizeof *tops)] : (int16_t)(2000 - (int)random_below(6501));
+    s.spacing = edge ? spacings[random_below(sizeof spacings / sizeof *spacings)] : (uint16_t)(25 + random_below(476));
+    return s;
+}
 
 static void begin_frame(uint8_t *f, int small)
 {
     int n = 1 + (int)random_below(small ? 3 : 16), rule = 1 + (int)random_below(3);
-    struct wko_setting setting = {-1000, 100};
+    struct wko_setting setting = random_setting(random_below(4) == 0);
     uint8_t window[16];
-    if (random_below(4) == 0)
-        setting.top = tops[random_below(10)];
-    if (random_below(4) == 0)
-        setting.spacing = spacings[random_below(10)];
     random_window(rule, n, window);
     wko_build_begin(f, (uint8_t)n, (uint8_t)rule, setting, window);
 }
@@ -105,8 +111,7 @@ static struct wko_session random_session(void)
     s.begun = (uint8_t)(random_below(4) ? 1 : random64());
     s.n = random_below(8) ? 1 + random_below(16) : random64() >> random_below(64);
     s.rule = (uint8_t)(random_below(8) ? 1 + random_below(3) : random64());
-    s.setting.top = tops[random_below(10)];
-    s.setting.spacing = spacings[random_below(10)];
+    s.setting = random_setting(random_below(2) == 0);
     if (random_below(4))
         random_window(s.rule, s.n >= 1 && s.n <= 16 ? (int)s.n : 16, s.window);
     else
@@ -150,6 +155,29 @@ static void check_begun_bytes(void)
     }
 }
 
+/* A session kept after a step that left the heights 0 to 15, the height d newest: the step sent again is answered with the level of d. */
+static void check_level(int d, int top, int spacing)
+{
+    struct wko_session s = {1, 16, 2, {(int16_t)top, (uint16_t)spacing}, {0}, 1};
+    uint8_t step[40];
+    for (int i = 0; i < 16; i++)
+        s.window[i] = (uint8_t)((d + 1 + i) % 16);
+    wko_build_step(step, 1);
+    check_frame(&s, step, 40, 40);
+}
+
+/* Every top with a spacing that any top passes with, where it passes; and every spacing with every height, from tops on both sides of zero. */
+static void check_levels(void)
+{
+    for (int top = -10001; top <= 2001; top++)
+        check_level(0, top, 133);
+    for (int spacing = 24; spacing <= 501; spacing++)
+        for (int d = 0; d < 16; d++) {
+            check_level(d, -1013, spacing);
+            check_level(d, 1987, spacing);
+        }
+}
+
 /* The bytes of each kind of frame, and an answer, written out. */
 static void check_bytes(void)
 {
@@ -180,6 +208,7 @@ int main(void)
     CHECK(!fresh.begun && fresh.done == 0 && !model_has_begun(&fresh), "a fresh session has not begun");
     check_bytes();
     check_begun_bytes();
+    check_levels();
     for (long k = 0; k < 50000; k++) {
         history(1);
         history(0);

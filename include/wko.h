@@ -17,7 +17,7 @@
 #include <stddef.h>
 #include <stdint.h>
 
-#define WKO_LIBRARY_VERSION "1.2.0"
+#define WKO_LIBRARY_VERSION "2.0.0"
 #define WKO_MAX_N 16     /* symbols of the longest window */
 #define WKO_FRAME_LEN 40 /* bytes of a frame, and of its answer */
 #define WKO_OPEN 255     /* an open place of a pattern */
@@ -129,13 +129,14 @@ uint32_t wko_fill(uint64_t n, const uint8_t *pattern, size_t pattern_len, uint8_
  * between the fields are not defined. Keep a checksum beside them, since a session with a flipped bit can be another good session.
  * Keep the session before the answer is sent: a device that answers first and then loses power comes back one step behind its host.
  *
- * The level of a symbol is top - (symbol - 1) * spacing under rule 1, and top - symbol * spacing under rules 2 and 3: the smallest symbol
- * has the highest level. A setting is refused (9) unless top is -10000 to 2000, spacing is 1 to 500 and the lowest level that n symbols
- * can come to, top - (n - 1) * spacing, is at least -12000.
+ * The level of a symbol is the multiple of 25 nearest to top - (symbol - 1) * spacing under rule 1, and to top - symbol * spacing under
+ * rules 2 and 3: the smallest symbol has the highest level, and different symbols have different levels. -13 rounds to -25, -12 and 12 to 0.
+ * A setting is refused (9) unless top is -10000 to 2000, spacing is 25 to 500 and top - (n - 1) * spacing, the lowest that n symbols can
+ * come to before rounding, is at least -12000.
  */
 struct wko_setting {
-    int16_t top;      /* the level of the smallest symbol, in hundredths of a dBm */
-    uint16_t spacing; /* how much lower the level of the next symbol is, in hundredths of a dB */
+    int16_t top;      /* the level of the smallest symbol before rounding, in hundredths of a dBm */
+    uint16_t spacing; /* how much lower the level of the next symbol is before rounding, in hundredths of a dB */
 };
 
 struct wko_session {

@@ -13,9 +13,9 @@ use Rattle.refusals.specs.declared.Cause.the-variants.{NotWeakOrder, LevelSetti
 use Rattle.refusals.specs.declared.Verdict.{Verdict}
 use Rattle.refusals.specs.declared.Verdict.the-variants.{Refused}
 use Rattle.successors.specs.Rules.{inForm, isRule}
-use Rattle.levels.specs.Level.{topOk, spacingOk, settingOk}
+use Rattle.levels.specs.Level.{settingOf, topOk, spacingOk, settingOk}
 use Rattle.sheets.specs.Sheet.{RawSheet, longest, hasTitle, parse}
-use Rattle.sheets.specs.Judgement.{settingOf, judged, judgedSheet, judgedText}
+use Rattle.sheets.specs.Judgement.{judged, judgedSheet, judgedText}
 use Rattle.faults.specs.Faults.{hasByte, endsLine, malformed, startFault, settingFault, sheetFault, textFault, faultOf}
 use Rattle.faults.specs.Claims.{verdictOf, Formless, TooLow, Claims}
 use Rattle.faults.specs.declared.Fault.{Fault}

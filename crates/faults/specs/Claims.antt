@@ -4,15 +4,15 @@ use mathlib.Core.List.{List}
 use mathlib.Core.Logic.{_⊎_}
 use mathlib.Core.Option.{some}
 use mathlib.Core.Path.{_≡_}
-use Prim.Native.Nat.{ℕ, _-_, _*_}
-use lib.IntN.{pos, negsuc, _-ℤ_}
+use Prim.Native.Nat.{ℕ, _-_}
+use lib.IntN.{negsuc}
 use lib.ListN.{length}
 use lib.Signed.{leZ}
 use Rattle.refusals.specs.declared.Cause.the-variants.{WindowLength, RuleNumber, NotWeakOrder, LevelSetting, SheetMalformed}
 use Rattle.refusals.specs.declared.Verdict.{Verdict}
 use Rattle.refusals.specs.declared.Verdict.the-variants.{Accepted, Refused}
 use Rattle.successors.specs.Rules.{inForm}
-use Rattle.levels.specs.Level.{topOk, spacingOk}
+use Rattle.levels.specs.Level.{settingOf, lowered, topOk, spacingOk}
 use Rattle.sheets.specs.Sheet.{RawSheet, parse}
 use Rattle.sheets.specs.Judgement.{judgedText}
 use Rattle.faults.specs.Faults.{faultOf}
@@ -44,11 +44,11 @@ pub record Formless (x : RawSheet) : Type 0 where
   pub count : length (x .start) ≡ x .n
   pub form : inForm (x .rule) (x .start) ≡ false
 
--- top and spacing are in range, and the lowest of n levels is below -12000
+-- top and spacing are in range, and the lowest of n levels, before it is rounded, is below -12000
 pub record TooLow (x : RawSheet) : Type 0 where
   pub top : topOk (x .top) ≡ true
   pub spacing : spacingOk (x .spacing) ≡ true
-  pub level : leZ (negsuc 11999) (x .top -ℤ pos ((x .n - 1) * x .spacing)) ≡ false
+  pub level : leZ (negsuc 11999) (lowered (settingOf (x .top) (x .spacing)) (x .n - 1)) ≡ false
 
 pub record Claims : Type 0 where
   -- the fault explains the very verdict on the text: no fault just if it is accepted, and otherwise a fault of the cause that is printed

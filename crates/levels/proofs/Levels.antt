@@ -1,17 +1,18 @@
 -- Levels under a setting that passes test 9: they lie in range, and fall as the symbol grows. Assumes nothing.
 use mathlib.Core.Bool.{true, false, false≢true}
-use mathlib.Core.Path.{_≡_, sym, ap, _∙_}
-use Prim.Native.Nat.{ℕ, _+_, _-_, _*_, _≤_, _<_}
-use native.Mathlib.Nat.{mul-le-mul-right, mul-lt-mul-of-pos-right}
+use mathlib.Core.Path.{_≡_, sym, _∙_}
+use Prim.Native.Nat.{ℕ, suc, _+_, _-_, _*_, _≤_, _<_}
+use native.Mathlib.Nat.{mul-le-mul-right, suc-mul}
 use native.Mathlib.Omega.{arith}
-use lib.IntN.{ℤ, pos, negsuc, subℕ, _-ℤ_}
+use lib.IntN.{ℤ, pos, negsuc, subℕ}
 use lib.Signed.{leZ, ltZ}
 use borrow.Author.Tests.{le-ltb}
-use Rattle.weak_orders.proofs.Tests.{says-and, says-itself}
+use Rattle.weak_orders.proofs.Tests.{says-and, says-itself, says-le}
 use Rattle.levels.specs.declared.Setting.{Setting}
-use Rattle.levels.specs.Level.{spacings, levelOf, settingOk}
-use Rattle.levels.proofs.Differences.{as-difference, lower-difference, says-lt-difference, says-le-difference}
-use Rattle.weak_orders.proofs.Tests.{says-le}
+use Rattle.levels.specs.Level.{spacings, lowered, rounded, levelOf, settingOk}
+use Rattle.levels.specs.Rounding.{isMultiple}
+use Rattle.levels.proofs.Differences.{as-difference, lower-difference, says-le-difference}
+use Rattle.levels.proofs.NearestMultiple.{rounding, rounded-falls, rounded-low, rounded-high}
 
 -- no integer is below itself
 lt-self : (z : ℤ) → ltZ z z ≡ false
@@ -24,27 +25,29 @@ pub record Passed (n : ℕ) (s : Setting) : Type 0 where
   pub q : ℕ
   pub top : s .top ≡ subℕ p q
   pub upper : p ≤ q + 2000
-  pub spaced : 1 ≤ s .spacing
+  pub spaced : 25 ≤ s .spacing
   pub lowest : q + (n - 1) * s .spacing ≤ p + 12000
 
 pub passed : (n : ℕ) (s : Setting) → settingOk n s ≡ true → Passed n s
-unfolding settingOk
+unfolding settingOk lowered
 passed n s t =
     let (p, q, e) = as-difference (s .top) in
-    let bottom = s .top -ℤ pos ((n - 1) * s .spacing) in
+    let bottom = lowered s (n - 1) in
     let tests = says-and (says-and (says-itself (leZ (negsuc 9999) (s .top))) (says-itself (leZ (s .top) (pos 2000))))
-    (says-and (says-and (says-le 1 (s .spacing)) (says-le (s .spacing) 500)) (says-itself (leZ (negsuc 11999) bottom))) in
+    (says-and (says-and (says-le 25 (s .spacing)) (says-le (s .spacing) 500)) (says-itself (leZ (negsuc 11999) bottom))) in
     let ((l, u), ((spaced, m), b)) = tests .to t in
     let upper = says-le-difference p q 2000 0 .to (rw e at u) in
     let lowest = says-le-difference 0 12000 p (q + (n - 1) * s .spacing) .to (rw (e, lower-difference) at b) in
     record { p = p; q = q; top = e; upper = omega arith; spaced = spaced; lowest = omega arith }
 
+pub level-multiple : (rule : ℕ) (s : Setting) (symbol : ℕ) → isMultiple (levelOf rule s symbol) ≡ true
+unfolding levelOf
+level-multiple rule s symbol = rounding (lowered s (spacings rule symbol)) .multiple
+
 module _ {n : ℕ} {s : Setting} (h : Passed n s) (rule : ℕ) where
-  level-difference : (symbol : ℕ) → levelOf rule s symbol ≡ subℕ (h .p) (h .q + spacings rule symbol * s .spacing)
-  unfolding levelOf
-  level-difference symbol =
-      ap (λ z. z -ℤ pos (spacings rule symbol * s .spacing)) (h .top)
-      ∙ lower-difference (h .p) (h .q) (spacings rule symbol * s .spacing)
+  level-difference : (symbol : ℕ) → levelOf rule s symbol ≡ rounded (subℕ (h .p) (h .q + spacings rule symbol * s .spacing))
+  unfolding levelOf lowered
+  level-difference symbol = rw (h .top, lower-difference (h .p) (h .q) (spacings rule symbol * s .spacing))
 
   -- every level of n symbols lies in -12000 … 2000
   pub level-range : (symbol : ℕ) → spacings rule symbol < n →
@@ -54,16 +57,19 @@ module _ {n : ℕ} {s : Setting} (h : Passed n s) (rule : ℕ) where
       let le : spacings rule symbol ≤ n - 1 = omega arith in
       let deep : d ≤ (n - 1) * s .spacing = mul-le-mul-right (s .spacing) le in
       rw (level-difference symbol) (
-        says-le-difference 0 12000 (h .p) (h .q + d) .of (omega (arith, h .lowest)),
-        says-le-difference (h .p) (h .q + d) 2000 0 .of (omega (arith, h .upper)),
+        rounded-low (h .p) (h .q + d) (omega (arith, h .lowest)),
+        rounded-high (h .p) (h .q + d) (omega (arith, h .upper)),
       )
 
   -- the fewer spacings, the higher the level
   pub level-falls : (u v : ℕ) → spacings rule u < spacings rule v → ltZ (levelOf rule s v) (levelOf rule s u) ≡ true
   level-falls u v lt =
-      let more : spacings rule u * s .spacing < spacings rule v * s .spacing = mul-lt-mul-of-pos-right lt (h .spaced) in
+      let du = spacings rule u in
+      let dv = spacings rule v in
+      let le : suc du ≤ dv = omega arith in
+      let more : suc du * s .spacing ≤ dv * s .spacing = mul-le-mul-right (s .spacing) le in
       rw (level-difference u, level-difference v)
-      (says-lt-difference (h .p) (h .q + spacings rule v * s .spacing) (h .p) (h .q + spacings rule u * s .spacing) .of (omega arith))
+      (rounded-falls (h .p) (h .q + dv * s .spacing) (h .p) (h .q + du * s .spacing) (omega (arith, h .spaced, suc-mul du (s .spacing))))
 
   -- and no other symbol has the same level
   pub level-same : (u v : ℕ) → levelOf rule s u ≡ levelOf rule s v → spacings rule u ≡ spacings rule v

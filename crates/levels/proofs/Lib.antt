@@ -1,4 +1,6 @@
 pub mod Differences
-pub mod Levels
+pub mod NearestMultiple
 pub mod Sizes
+pub mod Levels
 pub mod WindowLevels
+pub mod Worked

@@ -1,8 +1,8 @@
 -- The levels of a window: in range, and in the reverse order of its symbols. Assumes nothing.
 use mathlib.Core.Bool.{true}
 use mathlib.Core.List.{List}
-use mathlib.Core.Path.{_≡_}
-use Prim.Native.Nat.{ℕ, _<_}
+use mathlib.Core.Path.{_≡_, ap}
+use Prim.Native.Nat.{ℕ, _≤_, _<_}
 use native.Mathlib.Omega.{arith}
 use lib.Dec.{eqb}
 use lib.ListN.{length}
@@ -10,9 +10,10 @@ use Rattle.weak_orders.proofs.HeightForm.{height-below}
 use Rattle.weak_orders.proofs.RankForm.{says-rank, rank-positive, rank-le-length}
 use Rattle.weak_orders.proofs.Tests.{_∈_, by-test}
 use Rattle.successors.specs.Rules.{inForm}
-use Rattle.levels.specs.Level.{spacings}
-use Rattle.levels.proofs.Levels.{passed, level-range, level-falls, level-same}
-use Rattle.levels.specs.Levels.{LevelsOk}
+use Rattle.levels.specs.declared.Setting.{Setting}
+use Rattle.levels.specs.Level.{spacings, levelOf, settingOk}
+use Rattle.levels.proofs.Levels.{passed, level-multiple, level-range, level-falls, level-same}
+use Rattle.levels.specs.Levels.{Levels, LevelsOk}
 
 -- the spacings below the top: fewer than there are symbols, and in the order of the symbols
 module _ (rule : ℕ) (w : List ℕ) (form : inForm rule w ≡ true) where
@@ -30,17 +31,26 @@ module _ (rule : ℕ) (w : List ℕ) (form : inForm rule w ≡ true) where
       (λ e. rw e (omega (arith, rank-positive w (says-rank w .to (rw e at form)) u m)))
       (λ e. rw e lt)
 
-pub levels-ok : LevelsOk
-levels-ok n rule s w ok (long, form) =
+-- of a window that has no more than n symbols
+pub levels-within : (n rule : ℕ) (s : Setting) (w : List ℕ) → settingOk n s ≡ true → length w ≤ n → inForm rule w ≡ true →
+    Levels rule s w
+levels-within n rule s w ok short form =
     let h = passed n s ok in
     let within : (v : ℕ) → v ∈ w → spacings rule v < n = λ v m. omega (arith, spacings-below rule w form v m) in
     record {
       low = λ v m. level-range h rule v (within v m) .0;
       high = λ v m. level-range h rule v (within v m) .1;
+      multiple = λ v m. level-multiple rule s v;
       falling = λ u v mu mv lt. level-falls h rule u v (spacings-order rule w form u v mu lt);
-      same = λ u v mu mv e.
-          let d = level-same h rule u v e in
-          let up : ¬ (u < v) = λ lt. omega (arith, spacings-order rule w form u v mu lt) in
-          let down : ¬ (v < u) = λ lt. omega (arith, spacings-order rule w form v u mv lt) in
-          omega arith;
+      same = λ u v mu mv. (
+        λ e.
+            let d = level-same h rule u v e in
+            let up : ¬ (u < v) = λ lt. omega (arith, spacings-order rule w form u v mu lt) in
+            let down : ¬ (v < u) = λ lt. omega (arith, spacings-order rule w form v u mv lt) in
+            omega arith,
+        ap (levelOf rule s),
+      );
     }
+
+pub levels-ok : LevelsOk
+levels-ok n rule s w ok (long, form) = levels-within n rule s w ok (omega arith) form

@@ -1,2 +1,4 @@
 pub mod Level
+pub mod Rounding
 pub mod Levels
+pub mod Examples

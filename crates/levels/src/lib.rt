@@ -2,10 +2,10 @@
 // Rests on weak_orders for test 6, and on successors for the form that a rule's windows have.
 ghost use mathlib.Core.Bool.{_&&_};
 ghost use mathlib.Core.Path.{_≡_};
-ghost use Prim.Native.Nat.{_*_};
-ghost use lib.IntN.{pos, _-ℤ_};
+ghost use Prim.Native.Nat.{_<_, _^_};
+ghost use lib.Signed.{mag};
 ghost use Rattle.weak_orders.specs.Window.{isLength};
-ghost use Rattle.levels.specs.Level.{spacings, levelOf, topOk, spacingOk, settingOk};
+ghost use Rattle.levels.specs.Level.{spacings, lowered, nearest, rounded, levelOf, topOk, spacingOk, settingOk};
 
 // A level setting, in hundredths of a dBm.
 #[repr(C)]
@@ -27,9 +27,9 @@ fn spacings_of(rule: u8, symbol: u8) -> u8
     symbol - 1
 }
 
-// `count` spacings below the top. The product is unsigned, so that one signed operation is left.
+// `count` spacings below the top, not rounded. The product is unsigned, so that one signed operation is left.
 fn lowered(setting: Setting, count: u8) -> i32
-    ensures { λ r. ⌜ r ≡ setting .top -ℤ pos (count * setting .spacing) ⌝ }
+    ensures { λ r. ⌜ r ≡ lowered setting count ⌝ }
 {
     let top = setting.top;
     let spacing = setting.spacing;
@@ -37,11 +37,31 @@ fn lowered(setting: Setting, count: u8) -> i32
     (top as i32) - (drop as i32)
 }
 
-// The level of a symbol, in hundredths of a dBm.
+// The multiple of 25 nearest to a number.
+fn nearest(x: u32) -> u32
+    requires { ⌜ x < 2 ^ 26 ⌝ }
+    ensures { λ r. ⌜ r ≡ nearest x ⌝ }
+{
+    (x + 12) / 25 * 25
+}
+
+// The same on both sides of zero. What is divided is not below zero, since such a quotient would be cut off towards zero.
+fn rounded(z: i32) -> i32
+    requires { ⌜ mag z < 2 ^ 25 ⌝ }
+    ensures { λ r. ⌜ r ≡ rounded z ⌝ }
+{
+    if z < 0 {
+        let below = nearest((0 - z) as u32);
+        return 0 - (below as i32);
+    }
+    nearest(z as u32) as i32
+}
+
+// The level of a symbol, in hundredths of a dBm: rounded once, from the exact value.
 pub fn level(rule: u8, setting: Setting, symbol: u8) -> i32
     ensures { λ r. ⌜ r ≡ levelOf rule setting symbol ⌝ }
 {
-    lowered(setting, spacings_of(rule, symbol))
+    rounded(lowered(setting, spacings_of(rule, symbol)))
 }
 
 // Test 9 on the top alone, and on the spacing alone. They are wider than in a setting, for values that are not narrowed yet.
@@ -54,7 +74,7 @@ pub fn top_ok(top: i32) -> bool
 pub fn spacing_ok(spacing: u32) -> bool
     ensures { λ r. ⌜ r ≡ spacingOk spacing ⌝ }
 {
-    (1 <= spacing) & (spacing <= 500)
+    (25 <= spacing) & (spacing <= 500)
 }
 
 // Test 9, for a number of symbols that passes test 6.

@@ -21,13 +21,14 @@ use Rattle.universal_cycle.specs.Round.{Tour}
 use Rattle.universal_cycle.proofs.Rounds.{universal-cycle}
 use Rattle.refusals.specs.declared.Cause.{Cause}
 use Rattle.refusals.specs.declared.Cause.the-variants.{WindowLength, RuleNumber, NotWeakOrder, LevelSetting, SheetMalformed}
-use Rattle.levels.specs.Level.{settingOk}
+use Rattle.levels.specs.Level.{settingOf, settingOk}
+use Rattle.levels.proofs.WindowLevels.{levels-ok}
 use Rattle.sheets.specs.declared.judge.Round.{Round}
 use Rattle.refusals.specs.declared.Verdict.the-variants.{Accepted}
 use Rattle.sheets.specs.declared.judge.Judged.{Judged}
 use Rattle.printing.specs.declared.Printing.{Printing}
 use Rattle.sheets.specs.Sheet.{RawSheet, parse}
-use Rattle.sheets.specs.Judgement.{settingOf, roundOf, refusal, judged, judgedSheet, judgedText}
+use Rattle.sheets.specs.Judgement.{roundOf, refusal, judged, judgedSheet, judgedText}
 use Rattle.printing.specs.Printing.{roundLine, roundLines, openingText, stepsOf, printedText, lineCount, started, onward, lastLine}
 use Rattle.printing.specs.Printing.{Printed, below, pageOf, pageIn}
 use Rattle.printing.specs.Claims.{pages, Claims}
@@ -130,7 +131,7 @@ pages-join {r} {last} {k} {p} (room ∷ rooms) h at =
 data Outcome (j : Judged) : Type 0 where
   turned-down : (c : Cause) → j ≡ refusal c → Outcome j
   taken : (x : RawSheet) → j ≡ record { verdict = Accepted; round = roundOf x } → (1 ≤ x .n) × (x .n ≤ 8) → isRule (x .rule) ≡ true →
-      (length (x .start) ≡ x .n) × (inForm (x .rule) (x .start) ≡ true) → Outcome j
+      (length (x .start) ≡ x .n) × (inForm (x .rule) (x .start) ≡ true) → settingOk (x .n) (settingOf (x .top) (x .spacing)) ≡ true → Outcome j
 
 sheet-outcome : (x : RawSheet) → Outcome (judged x)
 unfolding judged
@@ -138,7 +139,7 @@ sheet-outcome x = by-test (leb 1 (x .n) && leb (x .n) 8)
     (λ e₆. by-test (isRule (x .rule))
     (λ e₇. by-test (eqb (length (x .start)) (x .n) && inForm (x .rule) (x .start))
     (λ e₈. by-test (settingOk (x .n) (settingOf (x .top) (x .spacing)))
-    (λ e₉. taken x (rw (e₆, e₇, e₈, e₉)) (in-bounds 1 8 (x .n) e₆) e₇ (says-and (says-eq (length (x .start)) (x .n)) (says-itself (inForm (x .rule) (x .start))) .to e₈))
+    (λ e₉. taken x (rw (e₆, e₇, e₈, e₉)) (in-bounds 1 8 (x .n) e₆) e₇ (says-and (says-eq (length (x .start)) (x .n)) (says-itself (inForm (x .rule) (x .start))) .to e₈) e₉)
     (λ e₉. turned-down LevelSetting (rw (e₆, e₇, e₈, e₉))))
     (λ e₈. turned-down NotWeakOrder (rw (e₆, e₇, e₈))))
     (λ e₇. turned-down RuleNumber (rw (e₆, e₇))))
@@ -189,7 +190,7 @@ all-printed : (j : Judged) → Outcome j → (rooms : List ℕ) → pages rooms 
     pages rooms (started j) .1 ≡ roundLines (j .round) (stepsOf (j .verdict) (j .round .n))
 unfolding roundLines stepsOf roundOf
 all-printed j (turned-down c e) rooms d = rw (e, no-lines c rooms)
-all-printed j (taken x e n r s) rooms d =
+all-printed j (taken x e n r s l) rooms d =
     let all = pages-join rooms (omega arith) (at-start x n r s) in
     let last : all .to ≡ a (x .n) = sym (all .at .done) ∙ (rw e at d) ∙ all .at .end in
     rw e (all .text ∙ ap (roundLines (roundOf x)) last)
@@ -198,18 +199,19 @@ all-done : (j : Judged) → Outcome j → (rooms : List ℕ) → ((room : ℕ) �
     stepsOf (j .verdict) (j .round .n) ≤ length rooms → pages rooms (started j) .0 .done ≡ pages rooms (started j) .0 .last
 unfolding stepsOf roundOf
 all-done j (turned-down c e) rooms h m = rw (e, no-lines c rooms) (nothing c)
-all-done j (taken x e n r s) rooms h m =
+all-done j (taken x e n r s l) rooms h m =
     let all = pages-join rooms (omega arith) (at-start x n r s) in
     let many : a (x .n) ≤ length rooms = rw e at m in
     rw e (all .at .done ∙ all .enough h (omega arith) ∙ sym (all .at .end))
 
-every-order : (j : Judged) → Outcome j → j .verdict ≡ Accepted → let r = j .round in
-    Tour (WeakOrder (r .n) (r .rule)) (step (ruleOf (r .rule))) (a (r .n)) (take (r .n) (r .window))
+-- an accepted one tours the weak orders, under a setting that passes test 9
+in-round : (j : Judged) → Outcome j → j .verdict ≡ Accepted → let r = j .round in
+    Tour (WeakOrder (r .n) (r .rule)) (step (ruleOf (r .rule))) (a (r .n)) (take (r .n) (r .window)) × (settingOk (r .n) (r .setting) ≡ true)
 unfolding roundOf
-every-order j (turned-down c e) v = absurd (let z : _≡_ {A = ℕ} 0 1 = cc (ap (λ (j : Judged). j .verdict) e) in omega arith)
-every-order j (taken x e (pos, few) r (size, form)) v =
+in-round j (turned-down c e) v = absurd (let z : _≡_ {A = ℕ} 0 1 = cc (ap (λ (j : Judged). j .verdict) e) in omega arith)
+in-round j (taken x e (pos, few) r (size, form) l) v =
     let kept = take-padded (x .start) (x .n) size in
-    rw (e, kept) (universal-cycle (x .rule) r (x .n) pos (x .start) (size, form))
+    rw (e, kept) (universal-cycle (x .rule) r (x .n) pos (x .start) (size, form), l)
 
 pub claims : Claims
 unfolding printedText
@@ -217,5 +219,6 @@ claims = record {
   reads = reads-as;
   prints = λ s rooms d. ap (λ t. openingText (judgedText s .verdict) ++ t) (all-printed (judgedText s) (outcome s) rooms d);
   ends = λ s rooms h m. all-done (judgedText s) (outcome s) rooms h m;
-  each = λ s v. every-order (judgedText s) (outcome s) v;
+  each = λ s v. in-round (judgedText s) (outcome s) v .0;
+  levels = λ s v k. let (tour, ok) = in-round (judgedText s) (outcome s) v in levels-ok _ _ _ _ ok (tour .kept k);
 }

@@ -2,20 +2,18 @@
 use mathlib.Core.List.{List, [], _∷_, _++_}
 use mathlib.Core.Path.{_≡_, ap}
 use Prim.Native.Nat.{ℕ, zero, suc, _-_, _*_, _/_, _^_, _≤_, _<_}
-use native.Mathlib.Nat.{div-add-mod', pow-succ', mul-le-mul}
+use native.Mathlib.Nat.{div-add-mod', pow-succ'}
 use native.Mathlib.Decide.{decLt}
 use native.Mathlib.Omega.{arith}
-use lib.Dec.{eqb}
 use lib.IntN.{ℤ, pos, negsuc}
 use lib.ListN.{length, getD, take, length-append, length-take, List·getD-eq-default}
 use lib.Seq.{getD-take}
 use lib.Signed.{mag}
-use Rattle.weak_orders.proofs.Tests.{_∈_, here, there, by-test}
+use Rattle.weak_orders.proofs.Tests.{_∈_, here, there}
 use Rattle.weak_orders.proofs.Lists.{mem-take, in-getD}
-use Rattle.levels.specs.declared.Setting.{Setting}
-use Rattle.levels.specs.Level.{spacings, levelOf}
+use Rattle.levels.specs.Level.{levelOf}
 use Rattle.frames.specs.Answer.{newest}
-use Rattle.levels.proofs.Sizes.{lower-mag}
+use Rattle.levels.proofs.Sizes.{level-size}
 use Rattle.decimals.specs.Text.{decimal, signed, commaed, joined}
 use Rattle.printing.specs.Printing.{lineText, stepLine, lastLine}
 use Rattle.printing.specs.declared.Printing.{Printing}
@@ -56,17 +54,6 @@ joined-width (x ∷ l) h = omega (
   decimal-width 2 x (omega (arith, h x here)),
   commaed-width l (λ v m. h v (there m)),
 )
-
--- a level, of any setting and any symbol
-level-size : (rule : ℕ) (s : Setting) (symbol : ℕ) → mag (s .top) ≤ 32768 → s .spacing < 65536 → symbol < 256 →
-    mag (levelOf rule s symbol) < 100000000
-unfolding levelOf spacings
-level-size rule s symbol t p v =
-    let d = spacings rule symbol in
-    let few : d ≤ 255 = by-test (eqb rule 1) (λ e. rw e (omega arith)) (λ e. rw e (omega arith)) in
-    let wide : s .spacing ≤ 65535 = omega arith in
-    let most : d * s .spacing ≤ 255 * 65535 = mul-le-mul few wide in
-    omega (arith, lower-mag (s .top) (d * s .spacing))
 
 -- the fields of a line with their ends
 pub line-width : (k symbol : ℕ) (level : ℤ) (w : List ℕ) → k < 2 ^ 64 → symbol < 256 → mag level < 100000000 → length w ≤ 16 →

@@ -5,9 +5,11 @@ use mathlib.Core.Option.{some}
 use mathlib.Core.Path.{_≡_}
 use Prim.Native.Nat.{ℕ, _≤_}
 use lib.ListN.{length, take}
+use Rattle.weak_orders.specs.Window.{iter}
 use Rattle.ranking.specs.Counts.{a}
 use Rattle.successors.specs.Rules.{ruleOf, WeakOrder, step}
 use Rattle.universal_cycle.specs.Round.{Tour}
+use Rattle.levels.specs.Levels.{Levels}
 use Rattle.refusals.specs.declared.Verdict.the-variants.{Accepted}
 use Rattle.printing.specs.declared.Printing.{Printing}
 use Rattle.sheets.specs.Sheet.{RawSheet, IsText, parse}
@@ -31,3 +33,6 @@ pub record Claims : Type 0 where
   -- the windows of an accepted sheet's lines are all the weak orders of n, each once, and at last the start
   pub each : (s : List ℕ) → let j = judgedText s in let r = j .round in
       j .verdict ≡ Accepted → Tour (WeakOrder (r .n) (r .rule)) (step (ruleOf (r .rule))) (a (r .n)) (take (r .n) (r .window))
+  -- and in each of them two places have equal levels just if their symbols are equal, the smaller symbol the higher level
+  pub levels : (s : List ℕ) → let j = judgedText s in let r = j .round in
+      j .verdict ≡ Accepted → (k : ℕ) → Levels (r .rule) (r .setting) (iter (step (ruleOf (r .rule))) k (take (r .n) (r .window)))

@@ -84,8 +84,10 @@ fn explain_values(fault: Fault) {
             b"the start is not in height form, as rules 2 and 3 ask: its symbols are 0 to some height without a gap, such as 0,0,1",
         ),
         Fault::Top => say(b"top is not -10000 to 2000, in hundredths of a dBm"),
-        Fault::Spacing => say(b"spacing is not 1 to 500, in hundredths of a dB"),
-        Fault::LowestLevel => say(b"the lowest level, top - (n - 1) * spacing, is below -12000"),
+        Fault::Spacing => say(b"spacing is not 25 to 500, in hundredths of a dB"),
+        Fault::LowestLevel => say(
+            b"top - (n - 1) * spacing, the lowest level before it is rounded, is below -12000",
+        ),
         _ => {}
     }
 }

@@ -19,13 +19,13 @@ use Rattle.successors.specs.Rules.{inForm, isRule}
 use Rattle.successors.proofs.RuleNumbers.{form-bound}
 use Rattle.refusals.specs.declared.Cause.the-variants.{WindowLength, RuleNumber, NotWeakOrder, LevelSetting, SheetMalformed}
 use Rattle.levels.specs.declared.Setting.{Setting}
-use Rattle.levels.specs.Level.{settingOk}
+use Rattle.levels.specs.Level.{settingOf, settingOk}
 use Rattle.refusals.specs.declared.Verdict.the-variants.{Accepted}
 use Rattle.sheets.specs.Sheet.{RawSheet, parse}
 use Rattle.sheets.specs.Held.{sheetHeld, parsedOf}
 use Rattle.sheets.specs.declared.sheet.Parsed.{Parsed}
 use Rattle.sheets.proofs.SheetTexts.{parse-sound}
-use Rattle.sheets.specs.Judgement.{settingOf, roundOf, refusal, judged, judgedSheet, judgedText, rawOf, symbolOf}
+use Rattle.sheets.specs.Judgement.{roundOf, refusal, judged, judgedSheet, judgedText, rawOf, symbolOf}
 
 -- ---- the tests
 

@@ -1,17 +1,12 @@
 -- Test 9 on values that are not yet narrowed. Assumes nothing.
 use mathlib.Core.Bool.{Bool, true, false, _&&_, false≢true}
 use mathlib.Core.Path.{_≡_, refl, sym, ap, _∙_}
-use Prim.Native.Nat.{ℕ, _≤_}
-use native.Mathlib.Omega.{arith}
-use lib.Dec.{leb}
-use lib.IntN.{ℤ, pos, negsuc}
-use mir.Syntax.{w16}
-use mir.Val.{SFits}
-use borrow.Author.Tests.{leb-true}
-use Rattle.weak_orders.proofs.Tests.{by-test, says-and, says-itself}
-use Rattle.levels.specs.Level.{topOk, spacingOk, settingOk}
+use Prim.Native.Nat.{ℕ}
+use lib.IntN.{ℤ}
+use Rattle.weak_orders.proofs.Tests.{by-test}
+use Rattle.levels.specs.Level.{settingOf, topOk, spacingOk, settingOk}
 use Rattle.sheets.specs.declared.judge.SettingTest.{SettingTest}
-use Rattle.sheets.specs.Judgement.{settingOf, settingTest, noSetting}
+use Rattle.sheets.specs.Judgement.{settingTest, noSetting}
 
 -- the first test that fails decides
 false-left : (a b : Bool) → a ≡ false → (a && b) ≡ false
@@ -20,15 +15,6 @@ false-left a b e = rw e
 false-right : (a b : Bool) → b ≡ false → (a && b) ≡ false
 false-right true b e = e
 false-right false b e = refl
-
--- a top that passes has room in 16 bits
-pub top-fits : (top : ℤ) → topOk top ≡ true → SFits w16 top
-top-fits (pos k) e = record { sfits = omega (arith, leb-true k 2000 e) }
-top-fits (negsuc k) e =
-    let (l, _) = says-and (says-itself (leb k 9999)) (says-itself true) .to e in record { sfits = omega (arith, leb-true k 9999 l) }
-
-pub spacing-below : (spacing : ℕ) → spacingOk spacing ≡ true → spacing ≤ 500
-spacing-below spacing e = let (_, h) = says-and (says-itself (leb 1 spacing)) (says-itself (leb spacing 500)) .to e in leb-true spacing 500 h
 
 module _ (n : ℕ) (top : ℤ) (spacing : ℕ) where
   pub not-ok : settingOk n (settingOf top spacing) ≡ false → settingTest n top spacing ≡ noSetting

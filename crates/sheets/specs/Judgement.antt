@@ -10,8 +10,7 @@ use Rattle.weak_orders.specs.Window.{padded}
 use Rattle.successors.specs.Rules.{inForm, isRule}
 use Rattle.refusals.specs.declared.Cause.{Cause}
 use Rattle.refusals.specs.declared.Cause.the-variants.{WindowLength, RuleNumber, NotWeakOrder, LevelSetting, SheetMalformed}
-use Rattle.levels.specs.declared.Setting.{Setting}
-use Rattle.levels.specs.Level.{settingOk}
+use Rattle.levels.specs.Level.{settingOf, settingOk}
 use Rattle.sheets.specs.declared.judge.Round.{Round}
 use Rattle.refusals.specs.declared.Verdict.the-variants.{Accepted, Refused}
 use Rattle.sheets.specs.declared.judge.Judged.{Judged}
@@ -20,9 +19,6 @@ use Rattle.sheets.specs.declared.sheet.Sheet.{Sheet}
 use Rattle.sheets.specs.Sheet.{RawSheet, parse}
 
 -- the round that a sheet asks for
-abbrev pub settingOf : ℤ → ℕ → Setting
-settingOf top spacing = record { top = top; spacing = spacing }
-
 unfoldable pub roundOf : RawSheet → Round
 roundOf x = record { n = x .n; rule = x .rule; setting = settingOf (x .top) (x .spacing); window = padded (x .start) }
 

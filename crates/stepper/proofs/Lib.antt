@@ -4,4 +4,5 @@ pub mod Handling
 pub mod Standing
 pub mod Counting
 pub mod ExactlyOnce
+pub mod RoundLevels
 pub mod Worked

@@ -7,11 +7,12 @@ use Prim.Native.Nat.{ℕ, zero, suc, _+_}
 use native.Mathlib.Omega.{arith}
 use lib.ListN.{getElem?}
 use Rattle.frames.specs.Question.{kindIn, letterS, numberIn}
-use Rattle.stepper.specs.Exchange.{fresh, exchange}
+use Rattle.stepper.specs.Exchange.{hasBegun, fresh, exchange}
 use Rattle.stepper.specs.ExactlyOnce.{passes, roundOf, countOf, Request, arrival, run, firsts}
-use Rattle.stepper.specs.Example.{beginning, stepping, asking, lent, ordered, arrived, odd, leftReference, leftRetried, leftHeights}
+use Rattle.stepper.specs.Example.{beginning, stepping, asking, lent, ordered, arrived, odd, leftReference, leftRetried, leftHeights, spaced}
 use Rattle.stepper.specs.Example.{Instance, replyTo, replyLater, Fields, Refusals}
 use Rattle.stepper.proofs.ExactlyOnce.{steps-exactly-once}
+use Rattle.stepper.proofs.RoundLevels.{round-levels}
 
 -- what holds at each position of a list
 abbrev Each : (ℕ → Request → Type 0) → List Request → Type 0
@@ -24,7 +25,7 @@ each P (y ∷ l) h zero x e = let p : y ≡ x = cc in subst (P 0) p (h .0)
 each P (y ∷ l) h (suc i) x e = each (λ i. P (suc i)) l (h .1) i x e
 
 pub «instance» : Instance
-unfolding beginning stepping lent ordered arrived odd leftReference leftRetried fresh exchange passes numberIn roundOf countOf run firsts
+unfolding beginning stepping lent ordered arrived odd leftReference leftRetried hasBegun fresh exchange passes numberIn roundOf countOf run firsts
 «instance» = record {
   round = refl;
   accepted-reference = refl;
@@ -46,10 +47,11 @@ unfolding beginning stepping lent ordered arrived odd leftReference leftRetried 
         step = each (λ i x. kindIn (x .frame) ≡ letterS) arrived
             (refl, (refl, (refl, (refl, (refl, (refl, (refl, (refl, (refl, (refl, (refl, (refl, tt))))))))))));
       });
+  levels = round-levels leftReference refl;
 }
 
 pub refusals : Refusals
-unfolding beginning stepping asking lent leftReference fresh exchange replyTo replyLater
+unfolding beginning stepping asking lent leftReference spaced hasBegun fresh exchange replyTo replyLater
 refusals = record {
   header = refl;
   kind = refl;
@@ -58,6 +60,7 @@ refusals = record {
   rule = refl;
   window = refl;
   setting = refl;
+  held = refl;
   not-begun = (refl, refl);
   kinds = (refl, refl, refl);
   reserved-S = refl;

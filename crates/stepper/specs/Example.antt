@@ -1,6 +1,6 @@
--- An instance of demand 3, and each refusal met once: the round that document 01 prints, n = 2, rule 1, from 1,1, top -1000,
+-- An instance of demand 3 and of the levels of a round, and each refusal met once: the round that document 01 prints, n = 2, rule 1, from 1,1, top -1000,
 -- spacing 100.
-use mathlib.Core.Bool.{true}
+use mathlib.Core.Bool.{true, false}
 use mathlib.Core.List.{List, [], _∷_, _++_, map}
 use mathlib.Core.Option.{some}
 use mathlib.Core.Path.{_≡_}
@@ -11,13 +11,14 @@ use lib.ListN.{take, set, replicate, getElem?}
 use Rattle.refusals.specs.declared.Cause.{Cause}
 use Rattle.refusals.specs.declared.Cause.the-variants.{ShortBuffer, FrameLength, FrameHeader, FrameKind, ReservedByte, WindowLength}
 use Rattle.refusals.specs.declared.Cause.the-variants.{RuleNumber, NotWeakOrder, LevelSetting, NotBegun, StepNumber, RoundFinished}
+use Rattle.levels.specs.Levels.{Levels}
 use Rattle.frames.specs.declared.answer.Reply.{Reply}
 use Rattle.frames.specs.declared.answer.Reply.the-variants.{Accepted, Refused}
 use Rattle.frames.specs.Answer.{accepted, stateReply}
 use Rattle.frames.specs.Fields.{ascii, bytes64}
 use Rattle.frames.specs.Question.{numberIn}
 use Rattle.stepper.specs.declared.session.Session.{Session}
-use Rattle.stepper.specs.Exchange.{fresh, Outcome, exchange}
+use Rattle.stepper.specs.Exchange.{hasBegun, fresh, Outcome, exchange}
 use Rattle.stepper.specs.ExactlyOnce.{roundOf, countOf, Request, arrival, run, firsts, ExactlyOnce}
 
 -- a B frame, an S frame numbered k < 256, a Q frame
@@ -69,6 +70,11 @@ leftRetried = exchange odd beginning (lent 45) .0 .session
 unfoldable pub leftHeights : Session
 leftHeights = exchange fresh (set (set (set beginning 6 3) 24 0) 25 0) (lent 40) .0 .session
 
+-- the reference one with another spacing
+unfoldable pub spaced : ℕ → Session
+spaced d =
+    record { begun = 1; n = 2; rule = 1; setting = record { top = negsuc 999; spacing = d }; window = 1 ∷ 1 ∷ replicate 14 0; done = 0 }
+
 pub record Instance : Type 0 where
   pub round : roundOf beginning ≡ 3
   pub accepted-reference : accepted (exchange fresh beginning (lent 40) .0 .reply) ≡ true
@@ -87,6 +93,7 @@ pub record Instance : Type 0 where
   pub untouched : getElem? (map (λ (o : Outcome). o .1) (run leftRetried arrived)) 2 ≡ some (replicate 39 7)
   pub refusal : getElem? (map (λ (o : Outcome). o .1) (run leftRetried arrived)) 3 ≡ some (ascii "WKA1" ++ (11 ∷ []) ++ replicate 35 0)
   pub both : ExactlyOnce beginning leftReference leftRetried ordered arrived
+  pub levels : Levels (leftReference .rule) (leftReference .setting) (take (leftReference .n) (leftReference .window))
 
 -- the reply to a frame, by a fresh session and by the one that the begin frame leaves
 unfoldable pub replyTo : List ℕ → Reply
@@ -114,8 +121,10 @@ pub record Refusals : Type 0 where
   pub length : Refuses ((5, 0) ∷ (5, 17) ∷ (5, 255) ∷ []) WindowLength
   pub rule : Refuses ((6, 0) ∷ (6, 4) ∷ []) RuleNumber
   pub window : Refuses ((24, 0) ∷ (25, 3) ∷ (26, 1) ∷ (39, 1) ∷ (6, 2) ∷ []) NotWeakOrder
-  -- top -32744, 31768 and -10216; spacing 0 and 612
-  pub setting : Refuses ((17, 128) ∷ (17, 124) ∷ (17, 216) ∷ (18, 0) ∷ (19, 2) ∷ []) LevelSetting
+  -- top -32744, 31768 and -10216; spacing 0, 24 and 612
+  pub setting : Refuses ((17, 128) ∷ (17, 124) ∷ (17, 216) ∷ (18, 0) ∷ (18, 24) ∷ (19, 2) ∷ []) LevelSetting
+  -- and a session that holds such a spacing counts as not begun
+  pub held : map (λ (d : ℕ). hasBegun (spaced d)) (24 ∷ 25 ∷ []) ≡ false ∷ true ∷ []
   pub not-begun : (replyTo (stepping 1) ≡ Refused NotBegun) × (replyTo asking ≡ Refused NotBegun)
   pub kinds : (replyTo beginning ≡ stateReply) × (replyLater (stepping 1) ≡ Accepted 2 (negsuc 1099)) × (replyLater asking ≡ stateReply)
   pub reserved-S : map (λ (i : ℕ). replyLater (set (stepping 1) i 1)) (5 ∷ 7 ∷ 16 ∷ 39 ∷ []) ≡ replicate 4 (Refused ReservedByte)

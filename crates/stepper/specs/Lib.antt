@@ -1,3 +1,4 @@
 pub mod Exchange
 pub mod ExactlyOnce
+pub mod RoundLevels
 pub mod Example

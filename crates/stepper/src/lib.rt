@@ -1,5 +1,5 @@
 // A session that steps through the weak orders of n, driven by frames of forty bytes.
-// Rests on frames for bytes and levels, on successors for the steps and on ranking for a round's length. Opens no device and keeps no
+// Rests on frames for bytes, on levels, on successors for the steps and on ranking for a round's length. Opens no device and keeps no
 // state of its own: a session goes in by value and comes back beside its reply.
 mod handler;
 pub mod session;

@@ -1,31 +1,33 @@
 -- `lowered` meets its contract: the product is below 2 ^ 24, so that nothing wraps. Assumes nothing.
 use Prim.Native.Nat.{_*_, _≤_, _<_, _^_}
-use native.Mathlib.Nat.{mul-le-mul}
 use native.Mathlib.Omega.{arith}
 use lib.IntN.{pos, _-ℤ_}
 use mir.Facts.{toZ-ofZ, toZ-pos, sfits-widen}
 use mir.Syntax.{w16, w32}
 use mir.Val.{SFits}
 use borrow.Author.Needs.{needs}
-use Rattle.levels.proofs.Sizes.{lower-mag}
+use Rattle.levels.specs.Level.{lowered}
+use Rattle.levels.proofs.Sizes.{drop-size, lowered-size}
 use Rattle.levels.proofs.lowered.Statement.{statement}
 use Rattle.levels.proofs.lowered.Tie as tie
-
-below : (s : tie.Start) → s .args .count * s .args .setting .spacing ≤ 255 * 65535
-below s =
-    let p : s .args .count < 2 ^ 8 = search needs in
-    let q : s .args .setting .spacing < 2 ^ 16 = search needs in
-    let p′ : s .args .count ≤ 255 = omega arith in
-    let q′ : s .args .setting .spacing ≤ 65535 = omega arith in
-    mul-le-mul p′ q′
 
 top-fits : (s : tie.Start) → SFits w16 (s .args .setting .top)
 top-fits s = search needs
 
+spacing-below : (s : tie.Start) → s .args .setting .spacing < 65536
+spacing-below s = let q : s .args .setting .spacing < 2 ^ 16 = search needs in omega arith
+
+count-below : (s : tie.Start) → s .args .count < 256
+count-below s = let p : s .args .count < 2 ^ 8 = search needs in omega arith
+
+below : (s : tie.Start) → s .args .count * s .args .setting .spacing ≤ 255 * 65535
+below s = drop-size (s .args .count) (s .args .setting .spacing) (count-below s) (spacing-below s)
+
 level-fits : (s : tie.Start) → SFits w32 (s .args .setting .top -ℤ pos (s .args .count * s .args .setting .spacing))
+unfolding lowered
 level-fits s =
-    let h = top-fits s in
-    record { sfits = omega (arith, below s, lower-mag (s .args .setting .top) (s .args .count * s .args .setting .spacing), h .sfits) }
+    let size = lowered-size (s .args .setting) (s .args .count) (omega (arith, top-fits s .sfits)) (spacing-below s) (count-below s) in
+    record { sfits = omega (arith, size) }
 
 cast-drop : tie.Need-cast-drop
 cast-drop c = search needs
@@ -48,6 +50,7 @@ sub-result c =
     rw (toZ-ofZ h, toZ-ofZ e, d) (level-fits s)
 
 returns : tie.Need-returns
+unfolding lowered
 returns c =
     let s = c .before in
     let h = top-fits s in

@@ -52,7 +52,8 @@ returns-2 c =
     let k = c .before .before in
     let wide : SFits w32 _ = sfits-widen tt (top-fits k) in
     let l : SFits w32 (k .lowered .result) = sfits-of (k .lowered .ok) in
-    simp (c .before .top-ok .ensures, c .spacing-ok .ensures, passed (k .before .before), toZ-ofZ (top-fits k), toZ-ofZ wide, toZ-ofZ l ∙ k .lowered .ensures)
+    let lowest = toZ-ofZ l ∙ k .lowered .ensures in
+    simp (passed (k .before .before), toZ-ofZ (top-fits k), toZ-ofZ wide, c .before .top-ok .ensures, c .spacing-ok .ensures, lowest)
 
 pub setting-ok-spec : {M : Type 1} → statement M
 setting-ok-spec =

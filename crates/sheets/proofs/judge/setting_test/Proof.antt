@@ -1,14 +1,13 @@
 -- `setting_test`: top and spacing are tested before they are narrowed. Assumes nothing.
 use mathlib.Core.Bool.{true}
 use mathlib.Core.Path.{_≡_, sym, ap, _∙_}
-use native.Mathlib.Omega.{arith}
 use mir.Facts.{toZ-ofZ}
 use mir.Syntax.{w16}
 use mir.Val.{SFits}
 use borrow.Author.Tests.{not-true, not-false}
-use Rattle.levels.specs.Level.{topOk, spacingOk, settingOk}
-use Rattle.sheets.specs.Judgement.{settingOf}
-use Rattle.sheets.proofs.Settings.{top-fits, not-ok, passes, top-out, spacing-out, spacing-below}
+use Rattle.levels.specs.Level.{settingOf, topOk, spacingOk, settingOk}
+use Rattle.levels.proofs.Sizes.{top-fits, spacing-fits}
+use Rattle.sheets.proofs.Settings.{not-ok, passes, top-out, spacing-out}
 use borrow.Author.Needs.{needs}
 use Rattle.sheets.proofs.judge.setting_test.Statement.{statement}
 use Rattle.sheets.proofs.judge.setting_test.Tie as tie
@@ -67,7 +66,7 @@ cast-t7 c =
 cast-t8 : tie.Need-cast-t8
 cast-t8 c =
     let v = c .before .before .before .before .args .spacing in
-    record { fits = omega (arith, spacing-below v (spacing-in c)) }
+    spacing-fits v (spacing-in c)
 
 setting-ok-requires : tie.Need-setting-ok-requires
 setting-ok-requires c κs = search needs
