@@ -1,13 +1,13 @@
 -- Integers as differences of two numbers, so that their order and their distances are those of numbers. Assumes nothing.
-use mathlib.Core.Bool.{not, false≢true}
+use mathlib.Core.Bool.{true, false, not, false≢true}
 use mathlib.Core.Path.{_≡_, refl, sym, ap, _∙_}
 use Prim.Native.Nat.{ℕ, zero, suc, _+_, _-_, _≤_, _<_}
-use native.Mathlib.Nat.{add-zero}
+use native.Mathlib.Nat.{zero-add, add-zero}
 use native.Mathlib.Omega.{arith}
 use native.Mathlib.Decide.{decLt}
 use lib.IntN.{ℤ, pos, negsuc, negℤ, natAbs, subℕ, _-ℤ_, +ℤ-idr}
 use lib.Signed.{leZ, ltZ}
-use borrow.Author.Tests.{lt-ltb, le-ltb}
+use borrow.Author.Tests.{ltb-true, lt-ltb, le-ltb}
 use Rattle.weak_orders.specs.Says.{Says}
 use Rattle.weak_orders.proofs.Tests.{says-as, same-test, says-le, says-lt, says-not}
 
@@ -106,3 +106,12 @@ le-not-lt (negsuc a) (negsuc b) = same-test (says-le b a) (says-as (says-not (sa
 pub says-le-difference : (p q p′ q′ : ℕ) → Says (leZ (subℕ p q) (subℕ p′ q′)) (p + q′ ≤ p′ + q)
 says-le-difference p q p′ q′ = rw (le-not-lt (subℕ p q) (subℕ p′ q′))
     (says-as (says-not (says-lt-difference p′ q′ p q)) (λ h. omega arith) (λ h. λ l. omega arith))
+
+-- by the sign: how far from zero a negative number is, and what any other is
+pub zero-sub-negative : (z : ℤ) → ltZ z (pos 0) ≡ true → pos 0 -ℤ z ≡ pos (natAbs z)
+zero-sub-negative (pos n) e = absurd (let l : n < 0 = ltb-true n 0 e in omega arith)
+zero-sub-negative (negsuc n) e = ap pos (zero-add (suc n))
+
+pub pos-abs : (z : ℤ) → ltZ z (pos 0) ≡ false → z ≡ pos (natAbs z)
+pos-abs (pos n) e = refl
+pos-abs (negsuc n) e = absurd (let l : _≡_ {A = ℕ} 0 1 = cc in omega arith)

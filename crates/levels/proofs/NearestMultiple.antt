@@ -12,7 +12,7 @@ use borrow.Author.Tests.{ltb-true, eqb-true, eq-eqb}
 use Rattle.levels.specs.Level.{nearest, rounded}
 use Rattle.levels.specs.Rounding.{isMultiple, Rounding}
 use Rattle.levels.proofs.Differences.{lt-difference, ge-difference, as-difference, neg-difference, same-difference, lower-difference}
-use Rattle.levels.proofs.Differences.{subtract-difference, abs-difference, says-lt-difference, says-le-difference}
+use Rattle.levels.proofs.Differences.{subtract-difference, abs-difference, pos-abs, says-lt-difference, says-le-difference}
 
 -- a number lies within 12 of its nearest multiple
 pub le-nearest : (x : ℕ) → x ≤ nearest x + 12
@@ -24,17 +24,16 @@ unfolding nearest
 nearest-le x = omega (arith, div-add-mod' (x + 12) 25)
 
 -- a negative number is rounded as what it is below zero, any other as itself
-pub rounded-negative : (z : ℤ) → ltZ z (pos 0) ≡ true → (pos 0 -ℤ z ≡ pos (natAbs z)) × (pos 0 -ℤ pos (nearest (natAbs z)) ≡ rounded z)
+pub rounded-negative : (z : ℤ) → ltZ z (pos 0) ≡ true → pos 0 -ℤ pos (nearest (natAbs z)) ≡ rounded z
 unfolding rounded
 rounded-negative (pos x) e = absurd (let l : x < 0 = ltb-true x 0 e in omega arith)
 rounded-negative (negsuc x) e =
     let m = nearest (suc x) in
-    (ap pos (zero-add (suc x)), lower-difference 0 0 m ∙ ap (subℕ 0) (zero-add m) ∙ sym (neg-difference m))
+    lower-difference 0 0 m ∙ ap (subℕ 0) (zero-add m) ∙ sym (neg-difference m)
 
-pub rounded-positive : (z : ℤ) → ltZ z (pos 0) ≡ false → (z ≡ pos (natAbs z)) × (pos (nearest (natAbs z)) ≡ rounded z)
+pub rounded-positive : (z : ℤ) → ltZ z (pos 0) ≡ false → pos (nearest (natAbs z)) ≡ rounded z
 unfolding rounded
-rounded-positive (pos x) e = (refl, refl)
-rounded-positive (negsuc x) e = absurd (let l : _≡_ {A = ℕ} 0 1 = cc in omega arith)
+rounded-positive z e = sym (ap rounded (pos-abs z e))
 
 -- The nearest multiple of the difference p - q is 25 (c - d), one of c and d being zero.
 record Near (p q : ℕ) : Type 0 where

@@ -5,7 +5,7 @@ use mathlib.Core.Path.{_≡_, refl, sym, ap, _∙_}
 use Prim.Native.Nat.{ℕ, zero, suc, _+_, _-_, _≤_, _<_}
 use native.Mathlib.Numerals.{add-one}
 use native.Mathlib.Omega.{arith}
-use lib.IntN.{ℤ, pos, negsuc, natAbs, _-ℤ_}
+use lib.IntN.{ℤ, pos, negsuc, natAbs}
 use lib.ListN.{length, getD, take, drop, length-append}
 use lib.Seq.{drop-append-le, take-suc, length-take-le, take-add}
 use lib.Signed.{ltZ, nonNeg}
@@ -24,10 +24,6 @@ pub signed-above : (z : ℤ) → ltZ z (pos 0) ≡ false → signed z ≡ decima
 unfolding signed
 signed-above (pos n) e = refl
 signed-above (negsuc n) e = absurd (let l : _≡_ {A = ℕ} 0 1 = cc in omega arith)
-
-pub mirrored : (z : ℤ) → ltZ z (pos 0) ≡ true → pos 0 -ℤ z ≡ pos (natAbs z)
-mirrored (pos n) e = absurd (let l : n < 0 = ltb-true n 0 e in omega arith)
-mirrored (negsuc n) e = ap pos (omega arith)
 
 pub above : (z : ℤ) → ltZ z (pos 0) ≡ false → T (nonNeg z)
 above (pos n) e = tt

@@ -9,6 +9,7 @@ use mir.Facts.{toZ-ofZ, toZ-pos}
 use mir.Syntax.{w32}
 use mir.Val.{SFits, toZ, ofZ}
 use Rattle.levels.specs.Level.{nearest, rounded}
+use Rattle.levels.proofs.Differences.{zero-sub-negative, pos-abs}
 use Rattle.levels.proofs.NearestMultiple.{nearest-le, rounded-negative, rounded-positive}
 use Rattle.levels.proofs.Sizes.{abs-mag, rounded-mag}
 use Rattle.levels.proofs.rounded.Statement.{statement}
@@ -29,7 +30,7 @@ positive c = simp (toZ-ofZ (c .before .fits .z)) at (c .if1 .left)
 
 -- what is below zero, as a number
 turned : (c : tie.Then1) → pos 0 -ℤ c .before .args .z ≡ pos (natAbs (c .before .args .z))
-turned c = rounded-negative (c .before .args .z) (negative c) .0
+turned c = zero-sub-negative (c .before .args .z) (negative c)
 
 fits : (s : tie.Start) → SFits w32 (pos (natAbs (s .args .z)))
 fits s = record { sfits = omega (arith, small s) }
@@ -58,7 +59,7 @@ lower : (c : tie.After-nearest) → pos 0 -ℤ toZ w32 (c .nearest .result) ≡ 
 lower c =
     let s = c .before .before in
     rw (down c, toZ-pos w32 {n = nearest (natAbs (s .args .z))} (omega (arith, small-nearest s)))
-    (rounded-negative (s .args .z) (negative (c .before)) .1)
+    (rounded-negative (s .args .z) (negative (c .before)))
 
 lower-fits : (s : tie.Start) → SFits w32 (rounded (s .args .z))
 lower-fits s = record { sfits = omega (arith, rounded-mag (s .args .z), s .pre) }
@@ -72,8 +73,7 @@ returns c = ap (λ x. toZ w32 (ofZ w32 x)) (lower c) ∙ toZ-ofZ (lower-fits (c 
 cast-nearest-2 : tie.Need-cast-nearest-2
 cast-nearest-2 c =
     let s = c .before in
-    let e = rounded-positive (s .args .z) (positive c) .0 in
-    rw (toZ-ofZ (s .fits .z), e) (tt, record { fits = omega (arith, small s) })
+    rw (toZ-ofZ (s .fits .z), pos-abs (s .args .z) (positive c)) (tt, record { fits = omega (arith, small s) })
 
 nearest-requires-2 : tie.Need-nearest-requires-2
 nearest-requires-2 c κs = rw (toZ-ofZ (c .before .fits .z)) (omega (arith, small (c .before)))
@@ -88,7 +88,7 @@ returns-2 : tie.Need-returns-2
 returns-2 c =
     let s = c .before .before in
     rw (up c, toZ-pos w32 {n = nearest (natAbs (s .args .z))} (omega (arith, small-nearest s)))
-    (rounded-positive (s .args .z) (positive (c .before)) .1)
+    (rounded-positive (s .args .z) (positive (c .before)))
 
 pub rounded-spec : {M : Type 1} → statement M
 rounded-spec =

@@ -6,7 +6,8 @@ use mir.Facts.{toZ-ofZ, sfits-widen, fits-natAbs}
 use mir.Syntax.{w32, w64}
 use mir.Val.{SFits, Fits}
 use borrow.Author.Needs.{needs}
-use Rattle.printing.proofs.WrittenLists.{mirrored, above}
+use Rattle.levels.proofs.Differences.{zero-sub-negative}
+use Rattle.printing.proofs.WrittenLists.{above}
 use Rattle.printing.proofs.writer.magnitude.Statement.{statement}
 use Rattle.printing.proofs.writer.magnitude.Tie as tie
 
@@ -23,7 +24,7 @@ mirror-fits s =
 
 -- what the difference is, below zero
 below : (c : tie.Then1) → pos 0 -ℤ c .before .args .z ≡ pos (natAbs (c .before .args .z))
-below c = mirrored (c .before .args .z) (simp (toZ-ofZ (c .before .fits .z)) at (c .if1 .taken))
+below c = zero-sub-negative (c .before .args .z) (simp (toZ-ofZ (c .before .fits .z)) at (c .if1 .taken))
 
 cast-result : tie.Need-cast-result
 cast-result c = rw (toZ-ofZ (c .before .fits .z)) (wide (c .before))
