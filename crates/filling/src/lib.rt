@@ -91,7 +91,7 @@ fn has_room(p: [u8; 16], n: usize) -> bool
     requires { ⌜ (n ≤ 16) × (isPattern n (take n p) ≡ true) ⌝ }
     ensures { λ r. ⌜ r ≡ leb (missing (take n p)) (openPlaces (take n p)) ⌝ }
 {
-    let t = weak_orders::counts(p, 0, n);
+    let t = weak_orders::counts(p, n);
     missing(t, n) <= t[17] as usize
 }
 
@@ -100,7 +100,7 @@ fn choice(p: [u8; 16], n: usize) -> u8
     requires { ⌜ (n ≤ 16) × (isPattern n (take n p) ≡ true) ⌝ }
     ensures { λ r. ⌜ r ≡ choice (take n p) ⌝ }
 {
-    let t = weak_orders::counts(p, 0, n);
+    let t = weak_orders::counts(p, n);
     if missing(t, n) < t[17] as usize {
         return 0;
     }

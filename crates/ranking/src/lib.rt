@@ -184,7 +184,7 @@ fn continuations(w: [u8; 16], n: usize, i: usize, counts: &mut [u64; 16])
     ensures { λ _. ⌜ Entries (now (counts .exit)) (completionsWith n (take i w)) n ⌝ }
 {
     let present = weak_orders::different(w, i) as usize;
-    let seen = weak_orders::counts(w, 0, i);
+    let seen = weak_orders::counts(w, i);
     let top = bound(w, i);
     let mut totals = [0u64; 17];
     ways_from((n - 1 - i) as u64, present as u64, &mut totals);

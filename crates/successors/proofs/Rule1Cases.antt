@@ -2,18 +2,21 @@
 use mathlib.Core.Bool.{Bool, true, false, cond, not, _&&_}
 use mathlib.Core.List.{List, _∷_}
 use mathlib.Core.Logic.{_≢_}
-use mathlib.Core.Path.{_≡_, refl}
+use mathlib.Core.Path.{_≡_, refl, _∙_}
 use Prim.Native.Nat.{ℕ, _+_, _-_, _≤_, _<_}
+use native.Mathlib.Omega.{arith}
 use native.Mathlib.Numerals.{add-one}
 use lib.Dec.{eqb}
-use lib.ListN.{take, drop, set}
+use lib.ListN.{take, drop}
 use borrow.Author.Tests.{lt-ltb, le-ltb, eq-eqb, ne-eqb}
 use Rattle.weak_orders.specs.Rotation.{start}
 use Rattle.weak_orders.specs.Tables.{tally}
-use Rattle.weak_orders.specs.Window.{all, num}
-use Rattle.successors.specs.ByTable.{singleBy, Low}
+use Rattle.weak_orders.specs.Window.{all, num, isRank}
+use Rattle.weak_orders.proofs.RankForm.{says-rank, rank-positive}
+use Rattle.weak_orders.proofs.Tests.{_∈_}
+use Rattle.successors.specs.ByTable.{passesBy, scanBy, Low}
 use Rattle.successors.specs.Rules.{rule1, isPlain, single, before, case3, case4, largestBelow}
-use Rattle.successors.proofs.Tables.{singleBy-single, singleBy-except, all-cong}
+use Rattle.successors.proofs.Tables.{passesBy-single, all-cong}
 use Rattle.successors.proofs.Windows.{mem-part}
 
 and-false : (a : Bool) → (a && false) ≡ false
@@ -65,22 +68,25 @@ module _ (u : List ℕ) (x : ℕ) (b : List ℕ) (e : u ≡ x ∷ b) where
   unfolding rule1
   rule1-chain ones p plain is-plain is-ones is-p = rw (is-plain, is-ones, is-p, add-one, e)
 
--- ---- the scans up to `start`, by a table of counts
+-- ---- the scans, by the one table of counts
+
+-- no rank window holds a 0
+pub not-zero : (u : List ℕ) → isRank u ≡ true → (v : ℕ) → v ∈ u → (not (eqb v 0) && single u v) ≡ single u v
+not-zero u rank v m = rw (ne-eqb v 0 (λ e. omega (arith, rank-positive u (says-rank u .to rank) v m)))
 
 module _ (w t : List ℕ) (n : ℕ) (low : Low (take n w)) (h : t ≡ tally (take n w)) where
-  pub plain-scan : all (singleBy t) (take n w) ≡ isPlain (take n w)
+  -- a scan of symbols of the window, as a test that is the same on them
+  scan : (p : ℕ) (f : ℕ → Bool) → ((v : ℕ) → v ∈ take n w → (not (eqb v p) && single (take n w) v) ≡ f v) →
+      (l : List ℕ) → ((v : ℕ) → v ∈ l → v ∈ take n w) → all (passesBy t p) l ≡ all f l
+  scan p f same l sub = all-cong (passesBy t p) f l (λ v m. passesBy-single t (take n w) h p v (low v (sub v m)) ∙ same v (sub v m))
+
+  -- cases 3 and 4
+  pub scan-case : (p : ℕ) (f : ℕ → Bool) → ((v : ℕ) → v ∈ take n w → (not (eqb v p) && single (take n w) v) ≡ f v) →
+      (j : ℕ) → scanBy j t (take n w) p ≡ all f (before j (take n w))
+  unfolding scanBy before
+  scan-case p f same j = scan p f same (drop 1 (take (j - 1) (take n w))) (mem-part 1 (j - 1) (take n w))
+
+  -- plain
+  pub plain-scan : isRank (take n w) ≡ true → all (passesBy t 0) (take n w) ≡ isPlain (take n w)
   unfolding isPlain
-  plain-scan = all-cong (singleBy t) (single (take n w)) (take n w) (λ v m. singleBy-single t (take n w) h v (low v m))
-
-  -- what holds of the symbols of the window holds of those before `start`
-  scan : (f g : ℕ → Bool) → ((v : ℕ) → v ≤ 16 → f v ≡ g v) → (j : ℕ) → all f (before j (take n w)) ≡ all g (before j (take n w))
-  unfolding before
-  scan f g same j = all-cong f g (drop 1 (take (j - 1) (take n w))) (λ v m. same v (low v (mem-part 1 (j - 1) (take n w) v m)))
-
-  pub case3-scan : (j : ℕ) → all (singleBy t) (before j (take n w)) ≡ all (single (take n w)) (before j (take n w))
-  case3-scan = scan (singleBy t) (single (take n w)) (singleBy-single t (take n w) h)
-
-  pub case4-scan : (p j : ℕ) → p ≤ 16 → p ≢ 1 →
-      all (singleBy (set t p 0)) (before j (take n w)) ≡ all (λ v. not (eqb v p) && single (take n w) v) (before j (take n w))
-  case4-scan p j le ne = scan (singleBy (set t p 0)) (λ v. not (eqb v p) && single (take n w) v)
-      (λ v lv. singleBy-except t (take n w) h p v le ne lv) j
+  plain-scan rank = scan 0 (single (take n w)) (not-zero (take n w) rank) (take n w) (λ v m. m)

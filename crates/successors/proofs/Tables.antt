@@ -2,20 +2,19 @@
 use mathlib.Core.Bool.{Bool, not, _&&_}
 use mathlib.Core.List.{List, [], _∷_}
 use mathlib.Core.Logic.{_≢_}
-use mathlib.Core.Path.{_≡_, refl, sym, ap, _∙_}
+use mathlib.Core.Path.{_≡_, refl, sym, _∙_}
 use Prim.Native.Nat.{ℕ, zero, suc, _-_, _≤_, _<_}
 use native.Mathlib.Omega.{arith}
 use native.Mathlib.Decide.{ℕ-discrete}
 use lib.Dec.{eqb}
-use lib.ListN.{length, getD, set}
-use lib.Seq.{getD-set-same, getD-set-other}
+use lib.ListN.{getD}
 use borrow.Author.Tests.{eq-eqb, ne-eqb}
 use Rattle.weak_orders.specs.Tables.{tally}
 use Rattle.weak_orders.specs.Window.{all, num}
 use Rattle.weak_orders.proofs.Symbols.{num-mem}
-use Rattle.weak_orders.proofs.Tallies.{tally-length, tally-num}
+use Rattle.weak_orders.proofs.Tallies.{tally-num}
 use Rattle.weak_orders.proofs.Tests.{_∈_, here, there}
-use Rattle.successors.specs.ByTable.{singleBy, largestBy}
+use Rattle.successors.specs.ByTable.{singleBy, passesBy, largestBy}
 use Rattle.successors.specs.Rules.{single, largestBelow}
 use Rattle.successors.proofs.Singles.{largest-above, largest-in}
 
@@ -24,18 +23,14 @@ module _ (t l : List ℕ) (h : t ≡ tally l) where
   table-num v le = rw h (tally-num l v le)
 
   -- ---- the symbols that are 1 or occur once
-  pub singleBy-single : (v : ℕ) → v ≤ 16 → singleBy t v ≡ single l v
+  singleBy-single : (v : ℕ) → v ≤ 16 → singleBy t v ≡ single l v
   unfolding singleBy single
   singleBy-single v le = rw (table-num v le)
 
-  -- and differ from p: the table has no 1 for p
-  pub singleBy-except : (p v : ℕ) → p ≤ 16 → p ≢ 1 → v ≤ 16 →
-      singleBy (set t p 0) v ≡ (not (eqb v p) && single l v)
-  unfolding singleBy single
-  singleBy-except p v low ne le = elim (ℕ-discrete v p) [
-    | yes e ↦ rw (e, eq-eqb p p refl, ne-eqb p 1 ne, getD-set-same t p 0 0 (omega (arith, ap length h, tally-length l)))
-    | no other ↦ rw (ne-eqb v p other, getD-set-other t p v 0 0 other, table-num v le)
-  ]
+  -- and differ from p
+  pub passesBy-single : (p v : ℕ) → v ≤ 16 → passesBy t p v ≡ (not (eqb v p) && single l v)
+  unfolding passesBy
+  passesBy-single p v le = rw (singleBy-single v le)
 
 -- tests that agree on the elements of a list
 pub all-cong : {A : Type 0} (p q : A → Bool) (l : List A) → ((x : A) → x ∈ l → p x ≡ q x) → all p l ≡ all q l

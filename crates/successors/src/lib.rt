@@ -6,17 +6,16 @@ mod height_rules;
 mod rank_rule;
 mod rotations;
 
-use height_rules::successor2;
-use height_rules::successor3;
-use rank_rule::successor1;
+use height_rules::next_in_heights;
+use rank_rule::next_in_ranks;
 use refusals::Cause;
 use refusals::Verdict;
-ghost use mathlib.Core.Bool.{true, _&&_};
+ghost use mathlib.Core.Bool.{_&&_};
 ghost use mathlib.Core.Path.{_≡_};
 ghost use lib.ListN.{take};
 ghost use Rattle.weak_orders.specs.Window.{isLength};
-ghost use Rattle.successors.specs.NextSymbol.{steppable, judged, nextSymbol, stepOrStay};
-ghost use Rattle.successors.specs.Rules.{inForm, isRule, ruleOf};
+ghost use Rattle.successors.specs.NextSymbol.{steppable, judged, judgedNumbers, nextSymbol, stepOrStay};
+ghost use Rattle.successors.specs.Rules.{inForm, isRule};
 
 // The first n symbols are a weak order of n in the rule's form: ranks for rule 1, heights for the others.
 pub fn in_form(rule: u8, w: [u8; 16], n: usize) -> bool
@@ -26,20 +25,6 @@ pub fn in_form(rule: u8, w: [u8; 16], n: usize) -> bool
         return weak_orders::is_rank(w, n);
     }
     weak_orders::is_height(w, n)
-}
-
-// The rule's symbol for a window in its form.
-fn successor(rule: u8, w: [u8; 16], n: usize) -> u8
-    requires { ⌜ (isLength n ≡ true) × (inForm rule (take n w) ≡ true) ⌝ }
-    ensures { λ r. ⌜ r ≡ ruleOf rule (take n w) ⌝ }
-{
-    if rule == 1 {
-        return successor1(w, n);
-    }
-    if rule == 2 {
-        return successor2(w, n);
-    }
-    successor3(w, n)
 }
 
 // The rules are 1, 2 and 3.
@@ -56,9 +41,9 @@ pub fn can_step(rule: u8, w: [u8; 16], n: usize) -> bool
     is_rule(rule) & in_form(rule, w, n)
 }
 
-// Tests 6, 7 and 8 of a window under a rule.
-pub fn judge(rule: u8, w: [u8; 16], n: usize) -> Verdict
-    ensures { λ r. ⌜ r ≡ judged rule n (take n w) ⌝ }
+// Tests 6 and 7: a window's length, and a rule's number.
+fn judge_numbers(rule: u8, n: usize) -> Verdict
+    ensures { λ r. ⌜ r ≡ judgedNumbers rule n ⌝ }
 {
     if !weak_orders::is_length(n) {
         return Verdict::Refused(Cause::WindowLength);
@@ -66,10 +51,18 @@ pub fn judge(rule: u8, w: [u8; 16], n: usize) -> Verdict
     if !is_rule(rule) {
         return Verdict::Refused(Cause::RuleNumber);
     }
-    if !in_form(rule, w, n) {
-        return Verdict::Refused(Cause::NotWeakOrder);
-    }
     Verdict::Accepted
+}
+
+// Tests 6, 7 and 8 of a window under a rule.
+pub fn judge(rule: u8, w: [u8; 16], n: usize) -> Verdict
+    ensures { λ r. ⌜ r ≡ judged rule n (take n w) ⌝ }
+{
+    let verdict = judge_numbers(rule, n);
+    match verdict {
+        Verdict::Accepted => weak_orders::judge(n, in_form(rule, w, n)),
+        Verdict::Refused(cause) => Verdict::Refused(cause),
+    }
 }
 
 // The symbol that follows, or why there is none.
@@ -81,11 +74,13 @@ pub enum Next {
 pub fn next_symbol(rule: u8, w: [u8; 16], n: usize) -> Next
     ensures { λ r. ⌜ r ≡ nextSymbol rule n (take n w) ⌝ }
 {
-    let verdict = judge(rule, w, n);
+    let verdict = judge_numbers(rule, n);
     match verdict {
         Verdict::Accepted => {
-            let s = successor(rule, w, n);
-            Next::Symbol(s)
+            if rule == 1 {
+                return next_in_ranks(w, n);
+            }
+            next_in_heights(rule, w, n)
         }
         Verdict::Refused(cause) => Next::Refused(cause),
     }
@@ -95,9 +90,9 @@ pub fn next_symbol(rule: u8, w: [u8; 16], n: usize) -> Next
 pub fn step(rule: u8, w: [u8; 16], n: usize) -> [u8; 16]
     ensures { λ r. ⌜ r ≡ stepOrStay rule n w ⌝ }
 {
-    if !can_step(rule, w, n) {
-        return w;
+    let next = next_symbol(rule, w, n);
+    match next {
+        Next::Symbol(s) => weak_orders::shift(w, n, s),
+        Next::Refused(_) => w,
     }
-    let s = successor(rule, w, n);
-    weak_orders::shift(w, n, s)
 }

@@ -1,6 +1,8 @@
-// Rule 1, on windows in rank form. The table of counts is filled once, and every test of how often a symbol occurs is read off it.
+// Rule 1, on windows in rank form. The table of counts is filled once a window, by `next_in_ranks`, which tests the form by it and hands it on
+// as t. Every other function here reads t, and none counts again.
+use crate::Next;
 use crate::rotations::least_rotation;
-use weak_orders::counts;
+use refusals::Cause;
 ghost use mathlib.Core.Bool.{true};
 ghost use mathlib.Core.List.{_∷_};
 ghost use mathlib.Core.Path.{_≡_};
@@ -8,19 +10,20 @@ ghost use Prim.Native.Nat.{_≤_, _<_};
 ghost use lib.ListN.{take, drop, getD};
 ghost use Rattle.weak_orders.specs.Rotation.{start};
 ghost use Rattle.weak_orders.specs.Tables.{tally};
-ghost use Rattle.weak_orders.specs.Window.{all, isRank};
-ghost use Rattle.successors.specs.ByTable.{singleBy, largestBy, Low, RepeatBeforeOne};
-ghost use Rattle.successors.specs.Rules.{isPlain, before, largestBelow, case3, case4, rule1};
+ghost use Rattle.weak_orders.specs.Window.{all, isLength, isRank};
+ghost use Rattle.successors.specs.ByTable.{passesBy, scanBy, largestBy, Low, RepeatBeforeOne};
+ghost use Rattle.successors.specs.NextSymbol.{nextSymbol};
+ghost use Rattle.successors.specs.Rules.{isPlain, largestBelow, case3, case4, rule1};
 
-// Each symbol from index a up to b is 1, or the table has a 1 for it.
-fn all_single(w: [u8; 16], t: [u8; 18], a: usize, b: usize) -> bool
+// Each symbol from index a up to b differs from p, and is 1 or the table has a 1 for it.
+fn all_single(w: [u8; 16], t: [u8; 18], p: usize, a: usize, b: usize) -> bool
     requires { ⌜ (b ≤ 16) × Low (take b w) ⌝ }
-    ensures { λ r. ⌜ r ≡ all (singleBy t) (drop a (take b w)) ⌝ }
+    ensures { λ r. ⌜ r ≡ all (passesBy t p) (drop a (take b w)) ⌝ }
 {
     let mut i = a;
     while i < b {
         let v = w[i] as usize;
-        if !((v == 1) | (t[v] == 1)) {
+        if !((v != p) & ((v == 1) | (t[v] == 1))) {
             return false;
         }
         i += 1;
@@ -28,10 +31,10 @@ fn all_single(w: [u8; 16], t: [u8; 18], a: usize, b: usize) -> bool
     true
 }
 
-// Behind the first symbol and before any 1 stands one for which the table has no 1.
-fn repeat_before_one(w: [u8; 16], n: usize, t: [u8; 18]) -> bool
+// Behind the first symbol and before any 1 stands p, or a symbol for which the table has no 1.
+fn repeat_before_one(w: [u8; 16], n: usize, t: [u8; 18], p: usize) -> bool
     requires { ⌜ (n ≤ 16) × Low (take n w) ⌝ }
-    ensures { λ r. ⌜ (r ≡ true → RepeatBeforeOne (singleBy t) n w) ⌝ }
+    ensures { λ r. ⌜ (r ≡ true → RepeatBeforeOne (passesBy t p) n w) ⌝ }
 {
     let mut j = 1;
     while j < n {
@@ -39,7 +42,7 @@ fn repeat_before_one(w: [u8; 16], n: usize, t: [u8; 18]) -> bool
         if v == 1 {
             return false;
         }
-        if t[v] != 1 {
+        if (v == p) | (t[v] != 1) {
             return true;
         }
         j += 1;
@@ -47,19 +50,19 @@ fn repeat_before_one(w: [u8; 16], n: usize, t: [u8; 18]) -> bool
     false
 }
 
-// Each symbol behind the first and before `start` is 1, or the table has a 1 for it, where `start` is that of the window with x first. The
+// The scan up to `start` of the window with x first: each symbol behind the first differs from p, and is 1 or the table has a 1 for it. The
 // least rotation of a rank window starts with a 1, so most windows need no search for it.
-fn single_before_start(w: [u8; 16], n: usize, t: [u8; 18], x: u8) -> bool
+fn single_before_start(w: [u8; 16], n: usize, t: [u8; 18], x: u8, p: usize) -> bool
     requires { ⌜ (1 ≤ n) × (n ≤ 16) × Low (take n w) × (1 < x) × (isRank (x ∷ drop 1 (take n w)) ≡ true) ⌝ }
-    ensures { λ r. ⌜ r ≡ all (singleBy t) (before (start (x ∷ drop 1 (take n w))) (take n w)) ⌝ }
+    ensures { λ r. ⌜ r ≡ scanBy (start (x ∷ drop 1 (take n w))) t (take n w) p ⌝ }
 {
-    if repeat_before_one(w, n, t) {
+    if repeat_before_one(w, n, t, p) {
         return false;
     }
     let mut v = w;
     v[0] = x;
     let least = least_rotation(v, n);
-    all_single(w, t, 1, least.start - 1)
+    all_single(w, t, p, 1, least.start - 1)
 }
 
 // The largest symbol below v that the table has, or 0.
@@ -77,7 +80,7 @@ fn largest_below(t: [u8; 18], v: usize) -> usize
     0
 }
 
-// Case 3; `plain` says whether the window is plain.
+// Case 3; `plain` says whether the window is plain. Its scan excludes no p: it is handed 0, which no rank window holds.
 fn is_case3(w: [u8; 16], n: usize, t: [u8; 18], plain: bool) -> bool
     requires { ⌜ (1 ≤ n) × (n ≤ 16) × Low (take n w) × (t ≡ tally (take n w)) × (plain ≡ isPlain (take n w)) × (isRank (take n w) ≡ true) ⌝ }
     ensures { λ r. ⌜ r ≡ case3 (getD w 0 0) (drop 1 (take n w)) ⌝ }
@@ -92,11 +95,10 @@ fn is_case3(w: [u8; 16], n: usize, t: [u8; 18], plain: bool) -> bool
     if t[a as usize] <= 1 {
         return false;
     }
-    single_before_start(w, n, t, a)
+    single_before_start(w, n, t, a, 0)
 }
 
-// Case 4 for p, the largest symbol below the first. The rotation is that of the window with p first, which is a rank window too; a table
-// without p makes the scan refuse p.
+// Case 4 for p, the largest symbol below the first. The rotation is that of the window with p first, which is a rank window too.
 fn is_case4(w: [u8; 16], n: usize, t: [u8; 18], p: usize) -> bool
     requires { ⌜ (1 ≤ n) × (n ≤ 16) × Low (take n w) × (t ≡ tally (take n w)) × (p ≡ largestBelow (take n w) (getD w 0 0)) × (isRank (take n w) ≡ true) ⌝ }
     ensures { λ r. ⌜ r ≡ case4 (getD w 0 0) (drop 1 (take n w)) p ⌝ }
@@ -111,18 +113,15 @@ fn is_case4(w: [u8; 16], n: usize, t: [u8; 18], p: usize) -> bool
     if p == 1 {
         return false;
     }
-    let mut without = t;
-    without[p] = 0;
-    single_before_start(w, n, without, p as u8)
+    single_before_start(w, n, t, p as u8, p)
 }
 
-// The symbol that follows a window in rank form: the first case that applies.
-pub(crate) fn successor1(w: [u8; 16], n: usize) -> u8
-    requires { ⌜ (1 ≤ n) × (n ≤ 16) × (isRank (take n w) ≡ true) ⌝ }
+// The symbol that follows a window in rank form: the first case that applies. Its table of counts is t.
+fn successor1(w: [u8; 16], n: usize, t: [u8; 18]) -> u8
+    requires { ⌜ (1 ≤ n) × (n ≤ 16) × (isRank (take n w) ≡ true) × (t ≡ tally (take n w)) ⌝ }
     ensures { λ r. ⌜ r ≡ rule1 (take n w) ⌝ }
 {
-    let t = counts(w, 0, n);
-    let plain = all_single(w, t, 0, n);
+    let plain = all_single(w, t, 0, 0, n);
     let ones = t[1];
     let a = w[0];
     if plain & (a == ones + 1) {
@@ -139,4 +138,17 @@ pub(crate) fn successor1(w: [u8; 16], n: usize) -> u8
         return p as u8;
     }
     a
+}
+
+// The symbol that follows a window of n in rank form; any other fails test 8.
+pub(crate) fn next_in_ranks(w: [u8; 16], n: usize) -> Next
+    requires { ⌜ isLength n ≡ true ⌝ }
+    ensures { λ r. ⌜ r ≡ nextSymbol 1 n (take n w) ⌝ }
+{
+    let t = weak_orders::counts(w, n);
+    if !weak_orders::is_rank_table(t, n) {
+        return Next::Refused(Cause::NotWeakOrder);
+    }
+    let s = successor1(w, n, t);
+    Next::Symbol(s)
 }

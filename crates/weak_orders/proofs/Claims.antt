@@ -4,13 +4,15 @@ use mathlib.Core.Path.{_≡_}
 use Prim.Native.Nat.{ℕ, suc, _-_, _≤_}
 use native.Mathlib.Omega.{arith}
 use lib.ListN.{length}
-use Rattle.weak_orders.specs.Claims.{Conversions, IsStart, Rotations, SymbolsAsBits}
+use Rattle.weak_orders.specs.Claims.{Conversions, IsStart, Rotations, TablesOfCounts, SymbolsAsBits}
 use Rattle.weak_orders.specs.Rotation.{rotation, start}
 use Rattle.weak_orders.proofs.Bits.{ones-height, different-ones}
 use Rattle.weak_orders.proofs.Conversions.{ranks-isRank, heights-isHeight, length-ranks, length-heights, ranks-heights, heights-ranks}
+use Rattle.weak_orders.proofs.FormTests.{rank-by-table}
 use Rattle.weak_orders.proofs.HeightForm.{height-rotation}
 use Rattle.weak_orders.proofs.RankForm.{rank-rotation}
 use Rattle.weak_orders.proofs.Rotations.{start-first, says-least}
+use Rattle.weak_orders.proofs.Tallies.{tally-num}
 
 pub conversions : Conversions
 conversions = record {
@@ -36,6 +38,9 @@ is-start (x ∷ b) pos =
 
 pub rotations : Rotations
 rotations = record { rank-rotation = rank-rotation; height-rotation = height-rotation; start-first = is-start }
+
+pub tables-of-counts : TablesOfCounts
+tables-of-counts = record { gives-num = tally-num; rank-form = rank-by-table }
 
 pub symbols-as-bits : SymbolsAsBits
 symbols-as-bits = record { ones-below = ones-height; ones-all = different-ones }

@@ -1,6 +1,7 @@
 -- The two forms: ranks by a table of counts, heights by bits. Assumes nothing.
 use mathlib.Core.Bool.{Bool, true, false, not, _&&_}
 use mathlib.Core.List.{List}
+use mathlib.Core.Logic.{inl, inr, ⊎-elim}
 use mathlib.Core.Path.{_≡_, sym, ap, _∙_}
 use Prim.Native.Nat.{ℕ, zero, suc, _+_, _^_, _<_, _≤_}
 use native.Mathlib.Nat.{mod-eq-of-lt}
@@ -14,17 +15,39 @@ use lib.ListN.{length, take, getD}
 use lib.Seq.{length-take-le}
 use Rattle.weak_orders.specs.Converted.{isRankWindow, isHeightWindow}
 use Rattle.weak_orders.specs.Says.{Says}
-use Rattle.weak_orders.specs.Tables.{tally, upto, Ranked, bitsOf}
+use Rattle.weak_orders.specs.Tables.{tally, upto, isRankTable, bitsOf}
 use Rattle.weak_orders.specs.Window.{below, different, bound, isRank, isHeight, isLength}
 use Rattle.weak_orders.proofs.Bits.{ones-height, bits-low, low-bits, cleared, full}
 use Rattle.weak_orders.proofs.HeightForm.{height-form, form-height, height-bound, height-below}
-use Rattle.weak_orders.proofs.RankForm.{says-rank, rank-le-length}
+use Rattle.weak_orders.proofs.Lists.{says-below}
+use Rattle.weak_orders.proofs.RankForm.{Rank, says-rank, rank-le-length}
 use Rattle.weak_orders.proofs.Symbols.{num-mem, below-suc, below-zero, below-all, different-below, different≤bound}
 use Rattle.weak_orders.proofs.Tallies.{tally-num}
-use Rattle.weak_orders.proofs.Tests.{_∈_, not-true→false, false→not-true, says-as, says-itself, same-test, says-eq, says-le, says-and, says-not}
+use Rattle.weak_orders.proofs.Tests.{_∈_, not-true→false, false→not-true, says-as, says-itself, same-test, says-eq, says-le, says-and, says-or, says-not}
 
--- ---- one turn of each loop
+-- the first n of an array, n from 1 to 16
+pub says-length : (n : ℕ) → Says (isLength n) ((1 ≤ n) × (n ≤ 16))
+unfolding isLength
+says-length n = says-and (says-le 1 n) (says-le n 16)
 
+-- ---- ranks by a table
+
+-- each symbol below n that the table has is one more than the number of places below it
+abbrev pub Ranked : List ℕ → ℕ → Type 0
+Ranked t n = (v : ℕ) → v < n → 0 < getD t v 0 → v ≡ suc (upto t v)
+
+-- this of the symbols up to n, in n places
+abbrev pub RankTable : ℕ → List ℕ → Type 0
+RankTable n t = (upto t (suc n) ≡ n) × Ranked t (suc n)
+
+pub says-rank-table : (n : ℕ) (t : List ℕ) → Says (isRankTable n t) (((1 ≤ n) × (n ≤ 16)) × RankTable n t)
+unfolding isRankTable
+says-rank-table n t = says-and (says-length n) (says-and (says-eq (upto t (suc n)) n)
+    (says-below (λ v. says-as (says-or (says-eq (getD t v 0) 0) (says-eq v (suc (upto t v))))
+    (λ h pos. ⊎-elim (λ z. absurd (omega arith)) (λ e. e) h)
+    (λ h. elim (ℕ-discrete (getD t v 0) 0) [ yes z ↦ inl z | no nz ↦ inr (h (omega (arith, nz))) ])) (suc n)))
+
+-- one turn of the loop
 module _ (t : List ℕ) (seen v : ℕ) (e : seen ≡ upto t v) where
   flag : Says (not (eqb (getD t v 0) 0) && not (eqb v (seen + 1))) ((¬ (getD t v 0 ≡ 0)) × (¬ (v ≡ seen + 1)))
   flag = says-and (says-not (says-eq (getD t v 0) 0)) (says-not (says-eq v (seen + 1)))
@@ -48,8 +71,7 @@ module _ (t : List ℕ) (seen v : ℕ) (e : seen ≡ upto t v) where
   unfolding upto
   upto-more = rw (add-one, ← e)
 
--- ---- the table of a list
-
+-- the table of a list
 module _ (u : List ℕ) where
   upto-below : (v : ℕ) → v ≤ 17 → upto (tally u) v ≡ below u v
   unfolding upto
@@ -63,16 +85,17 @@ module _ (u : List ℕ) where
   of-has v le p = num-mem u v .0 (omega (arith, tally-num u v le))
 
   -- the symbols of a rank window are at most its length, so the table is read up to there
-  pub ranked-rank : {r : Bool} (n : ℕ) → length u ≡ n → n ≤ 16 → Says r ((upto (tally u) (suc n) ≡ n) × Ranked (tally u) (suc n)) → r ≡ isRank u
-  ranked-rank n l le s = same-test (says-as s
-      (λ (z, h) x m.
-      let low = below-all u (suc n) .0 (omega (arith, upto-below (suc n) (omega arith))) x m in
-      omega (arith, h x low (has x (omega arith) m), upto-below x (omega arith)))
-      (λ h. (
-        omega (arith, upto-below (suc n) (omega arith), below-all u (suc n) .1 (λ x m. omega (arith, rank-le-length u h x m))),
-        λ v lt pos. omega (arith, h v (of-has v (omega arith) pos), upto-below v (omega arith)),
-      )))
-      (says-rank u)
+  module _ (n : ℕ) (l : length u ≡ n) (le : n ≤ 16) where
+    table-rank : RankTable n (tally u) → Rank u
+    table-rank (z, h) x m =
+        let low = below-all u (suc n) .0 (omega (arith, upto-below (suc n) (omega arith))) x m in
+        omega (arith, h x low (has x (omega arith) m), upto-below x (omega arith))
+
+    rank-table : Rank u → RankTable n (tally u)
+    rank-table h = (
+      omega (arith, upto-below (suc n) (omega arith), below-all u (suc n) .1 (λ x m. omega (arith, rank-le-length u h x m))),
+      λ v lt pos. omega (arith, h v (of-has v (omega arith) pos), upto-below v (omega arith)),
+    )
 
 -- ---- the bits of a list
 
@@ -102,11 +125,6 @@ module _ (u : List ℕ) where
 
 -- ---- a window in an array
 
--- the first n of an array, n from 1 to 16
-pub says-length : (n : ℕ) → Says (isLength n) ((1 ≤ n) × (n ≤ 16))
-unfolding isLength
-says-length n = says-and (says-le 1 n) (says-le n 16)
-
 -- a window in form has no symbol above 16
 module _ (w : List ℕ) (n : ℕ) (l : length w ≡ 16) (h : n ≤ 16) where
   size : length (take n w) ≡ n
@@ -118,23 +136,23 @@ module _ (w : List ℕ) (n : ℕ) (l : length w ≡ 16) (h : n ≤ 16) where
   pub height-low : isHeight (take n w) ≡ true → (x : ℕ) → x ∈ take n w → x < n
   height-low t x m = omega (arith, size, height-below (take n w) t x m)
 
--- the two tests, case by case
+-- ranks by the table
+pub rank-by-table : (w : List ℕ) (n : ℕ) → length w ≡ 16 → isRankTable n (tally (take n w)) ≡ isRankWindow n w
+unfolding isRankWindow
+rank-by-table w n l = let u = take n w in same-test (says-rank-table n (tally u)) (says-as (says-and (says-length n) (says-rank u))
+    (λ (b, h). (b, rank-table u n (size w n l (b .1)) (b .1) h))
+    (λ (b, h). (b, table-rank u n (size w n l (b .1)) (b .1) h)))
+
+-- heights by the bits, case by case
 module _ (w : List ℕ) (n : ℕ) (l : length w ≡ 16) where
-  pub no-length : isLength n ≡ false → (false ≡ isRankWindow n w) × (false ≡ isHeightWindow n w)
-  unfolding isRankWindow isHeightWindow
-  no-length e = (rw e, rw e)
+  pub no-length : isLength n ≡ false → false ≡ isHeightWindow n w
+  unfolding isHeightWindow
+  no-length e = rw e
 
   module _ (pos : 1 ≤ n) (h : n ≤ 16) where
-    long : isLength n ≡ true
-    long = says-length n .of (pos, h)
-
-    pub rank-as : {r : Bool} → r ≡ isRank (take n w) → r ≡ isRankWindow n w
-    unfolding isRankWindow
-    rank-as e = rw long e
-
-    pub height-as : {r : Bool} → r ≡ isHeight (take n w) → r ≡ isHeightWindow n w
+    height-as : {r : Bool} → r ≡ isHeight (take n w) → r ≡ isHeightWindow n w
     unfolding isHeightWindow
-    height-as e = rw long e
+    height-as e = rw (says-length n .of (pos, h)) e
 
     module _ (b : ℕ) (e : b ≡ bitsOf (take n w)) where
       pub height-high : 2 ^ 31 ≤ b → false ≡ isHeightWindow n w
@@ -142,10 +160,6 @@ module _ (w : List ℕ) (n : ℕ) (l : length w ≡ 16) where
 
       pub height-by-bits : b < 2 ^ 31 → eqb (bitAnd b (b + 1)) 0 ≡ isHeightWindow n w
       height-by-bits g = height-as (rw e (gap-height (take n w) (rw e at g)))
-
-    module _ (t : List ℕ) (e : t ≡ tally (take n w)) {r : Bool} where
-      pub rank-by-table : Says r ((upto t (suc n) ≡ n) × Ranked t (suc n)) → r ≡ isRankWindow n w
-      rank-by-table s = rank-as (ranked-rank (take n w) n (size w n l h) h (rw e at s))
 
 -- and back: a window that passes the test
 pub of-rank-window : (w : List ℕ) (n : ℕ) → isRankWindow n w ≡ true → (1 ≤ n) × (n ≤ 16) × (isRank (take n w) ≡ true)

@@ -4,9 +4,10 @@ use mathlib.Core.List.{List}
 use mathlib.Core.Path.{_≡_}
 use Prim.Native.Nat.{ℕ, _+_, _-_, _%_, _^_, _≤_, _<_}
 use lib.Count.{ones}
-use lib.ListN.{length}
+use lib.ListN.{length, take}
 use Rattle.weak_orders.specs.Rotation.{rotation, isLeast, start}
-use Rattle.weak_orders.specs.Tables.{bitsOf}
+use Rattle.weak_orders.specs.Converted.{isRankWindow}
+use Rattle.weak_orders.specs.Tables.{tally, GivesNum, isRankTable, bitsOf}
 use Rattle.weak_orders.specs.Window.{height, different, bound, isRank, isHeight, heights, ranks}
 
 -- the conversions: ranks of any window are in rank form, heights in height form, and on windows in form each undoes the other
@@ -30,6 +31,11 @@ pub record Rotations : Type 0 where
   pub rank-rotation : (w : List ℕ) (i : ℕ) → isRank w ≡ true → isRank (rotation w i) ≡ true
   pub height-rotation : (w : List ℕ) (i : ℕ) → isHeight w ≡ true → isHeight (rotation w i) ≡ true
   pub start-first : (w : List ℕ) → 1 ≤ length w → IsStart w
+
+-- tables of counts: each gives num(v), and that of the first n symbols of an array tells whether they are a weak order of n in rank form
+pub record TablesOfCounts : Type 0 where
+  pub gives-num : (l : List ℕ) → GivesNum l (tally l)
+  pub rank-form : (w : List ℕ) (n : ℕ) → length w ≡ 16 → isRankTable n (tally (take n w)) ≡ isRankWindow n w
 
 -- symbols as bits: the ones below bit k are the different symbols below k, and all symbols are among them where each is below 31
 pub record SymbolsAsBits : Type 0 where

@@ -7,10 +7,9 @@ ghost use mathlib.Core.Path.{_≡_};
 ghost use Prim.Native.Nat.{min, suc, _≤_, _<_, _%_, _^_};
 ghost use lib.Count.{ones};
 ghost use lib.Dec.{ltb};
-ghost use lib.ListN.{take, drop};
-ghost use Rattle.weak_orders.specs.Says.{Says};
+ghost use lib.ListN.{take};
 ghost use Rattle.weak_orders.specs.Window.{below, height, heights, ranks, isLength, padded, loaded, shifted};
-ghost use Rattle.weak_orders.specs.Tables.{tally, upto, Ranked, bitOf, bitsOf};
+ghost use Rattle.weak_orders.specs.Tables.{tally, GivesNum, isRankTable, bitOf, bitsOf};
 ghost use Rattle.weak_orders.specs.Converted.{isRankWindow, isHeightWindow, judgedBy, answered, rankToHeight, heightToRank};
 ghost use Rattle.refusals.specs.declared.Verdict.{Verdict};
 use refusals::Cause;
@@ -30,13 +29,14 @@ fn capped(n: usize) -> usize
     if n < 16 { n } else { 16 }
 }
 
-// How often each symbol up to 16 occurs from the index a up to n; the last entry counts the larger ones.
-pub fn counts(w: [u8; 16], a: usize, n: usize) -> [u8; 18]
-    ensures { λ r. ⌜ r ≡ tally (drop a (take n w)) ⌝ }
+// How often each symbol up to 16 occurs among the first n; the last entry counts the larger ones.
+pub fn counts(w: [u8; 16], n: usize) -> [u8; 18]
+    ensures { λ r. ⌜ r ≡ tally (take n w) ⌝ }
+    ensures num { λ r. ⌜ GivesNum (take n w) r ⌝ }
 {
     let end = capped(n);
     let mut t = [0u8; 18];
-    let mut i = a;
+    let mut i: usize = 0;
     while i < end {
         let v = slot(w[i]);
         t[v] = t[v] + 1;
@@ -45,12 +45,21 @@ pub fn counts(w: [u8; 16], a: usize, n: usize) -> [u8; 18]
     t
 }
 
-// Each symbol up to n that the table has is one more than the number of places below it, and no other place is left. The test is of
-// one entry after another, since which of them are 0 is hard to foresee.
-fn ranked(t: [u8; 18], n: usize) -> bool
-    requires { ⌜ n ≤ 16 ⌝ }
-    ensures { λ r. ⌜ Says r ((upto t (suc n) ≡ n) × Ranked t (suc n)) ⌝ }
+// Test 6 of document 01: n is 1 to 16.
+pub fn is_length(n: usize) -> bool
+    ensures { λ r. ⌜ r ≡ isLength n ⌝ }
 {
+    (1 <= n) & (n <= 16)
+}
+
+// By its table of counts, a window of n is in rank form: each symbol that it holds is one more than the number of places below it, and
+// none is larger than n. The test is of one entry after another, since which of them are 0 is hard to foresee.
+pub fn is_rank_table(t: [u8; 18], n: usize) -> bool
+    ensures { λ r. ⌜ r ≡ isRankTable n t ⌝ }
+{
+    if !is_length(n) {
+        return false;
+    }
     let mut seen: usize = 0;
     let mut v = 0;
     while v <= n {
@@ -63,21 +72,11 @@ fn ranked(t: [u8; 18], n: usize) -> bool
     seen == n
 }
 
-// Test 6 of document 01: n is 1 to 16.
-pub fn is_length(n: usize) -> bool
-    ensures { λ r. ⌜ r ≡ isLength n ⌝ }
-{
-    (1 <= n) & (n <= 16)
-}
-
 // The first n symbols are a weak order of n in rank form.
 pub fn is_rank(w: [u8; 16], n: usize) -> bool
     ensures { λ r. ⌜ r ≡ isRankWindow n w ⌝ }
 {
-    if !is_length(n) {
-        return false;
-    }
-    ranked(counts(w, 0, n), n)
+    is_rank_table(counts(w, n), n)
 }
 
 // The first n symbols are a weak order of n in height form: none is 31 or more, and as bits they have no gap, so that adding 1 clears

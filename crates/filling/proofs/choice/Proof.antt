@@ -17,7 +17,7 @@ counted : (c : tie.After-missing) →
 counted c =
     let k = c .before .counts in
     let s = c .before .before in
-    (c .missing .ensures _ (s .pre .1) (k .ensures), table-open _ _ (s .pre .0) (s .pre .1) (k .result) (k .ensures))
+    (c .missing .ensures _ (s .pre .1) (k .ensures .0), table-open _ _ (s .pre .0) (s .pre .1) (k .result) (k .ensures .0))
 
 counts-requires : tie.Need-counts-requires
 counts-requires c κs = search needs
@@ -47,7 +47,7 @@ returns-2 c =
     let m = c .before .before in
     let s = m .before .before in
     let q = take (s .args .n) (s .args .p) in
-    rw (le-ltb (missing q) (openPlaces q) (omega (arith, counted m))) (c .least-missing .ensures q (s .pre .1) (m .before .counts .ensures))
+    rw (le-ltb (missing q) (openPlaces q) (omega (arith, counted m))) (c .least-missing .ensures q (s .pre .1) (m .before .counts .ensures .0))
 
 pub choice-spec : {M : Type 1} → statement M
 choice-spec =

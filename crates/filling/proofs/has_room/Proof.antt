@@ -20,7 +20,7 @@ returns : tie.Need-returns
 returns c =
     let k = c .before .counts in
     let s = c .before .before in
-    rw (c .missing .ensures _ (s .pre .1) (k .ensures), table-open _ _ (s .pre .0) (s .pre .1) (k .result) (k .ensures))
+    rw (c .missing .ensures _ (s .pre .1) (k .ensures .0), table-open _ _ (s .pre .0) (s .pre .1) (k .result) (k .ensures .0))
 
 pub has-room-spec : {M : Type 1} → statement M
 has-room-spec =

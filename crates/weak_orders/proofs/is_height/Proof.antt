@@ -17,7 +17,7 @@ is-length-requires c κs = search needs
 returns : tie.Need-returns
 returns c =
     let l = c .before .is-length in
-    no-length (c .before .before .args .w) (c .before .before .args .n) (search needs) (sym (l .ensures) ∙ not-true (l .result) (c .if1 .taken)) .1
+    no-length (c .before .before .args .w) (c .before .before .args .n) (search needs) (sym (l .ensures) ∙ not-true (l .result) (c .if1 .taken))
 
 present-requires : tie.Need-present-requires
 present-requires c κs = search needs

@@ -10,16 +10,16 @@ use mir.Val.{Fits}
 use mir.Syntax.{w8}
 use Rattle.weak_orders.specs.Window.{all}
 use Rattle.weak_orders.proofs.Parts.{at-part}
-use Rattle.successors.specs.ByTable.{singleBy}
+use Rattle.successors.specs.ByTable.{singleBy, passesBy}
 use Rattle.successors.proofs.Scans.{scan-passes, scan-fails, scan-ends}
 use Rattle.successors.proofs.rank_rule.all_single.Statement.{statement}
 use Rattle.successors.proofs.rank_rule.all_single.Tie as tie
 
 abbrev Inv-loop : tie.InvT-loop
-Inv-loop a b w t i₀ i = all (singleBy t) (drop a (take b w)) ≡ all (singleBy t) (drop i (take b w))
+Inv-loop p a b w t i₀ i = all (passesBy t p) (drop a (take b w)) ≡ all (passesBy t p) (drop i (take b w))
 
 abbrev μ-loop : tie.MeasureT-loop
-μ-loop a b w t i₀ i = b - i
+μ-loop p a b w t i₀ i = b - i
 
 fits : (s : tie.Start Inv-loop μ-loop) → s .args .b ≤ length (s .args .t1)
 fits s = let l : length (s .args .t1) ≡ 16 = search needs in omega arith
@@ -42,12 +42,12 @@ array-read-if1 c =
     omega (arith, p .before .pre .1 _ (at-part (a .t1) 0 (a .b) (fits (p .before)) (p .loop .i) (omega arith) (omega arith)))
 
 returns : tie.Need-returns Inv-loop μ-loop
-unfolding singleBy
+unfolding passesBy singleBy
 returns c =
     let p = c .before .before in
     let a = p .before .args in
-    scan-fails (singleBy (a .t2)) (a .t1) (p .loop .i) (a .b) (fits (p .before)) (p .loop .inv) (omega arith)
-    (not-true (singleBy (a .t2) (getD (a .t1) (p .loop .i) 0)) (c .if1 .taken))
+    scan-fails (passesBy (a .t2) (a .p)) (a .t1) (p .loop .i) (a .b) (fits (p .before)) (p .loop .inv) (omega arith)
+    (not-true (passesBy (a .t2) (a .p) (getD (a .t1) (p .loop .i) 0)) (c .if1 .taken))
 
 add-i : tie.Need-add-i Inv-loop μ-loop
 add-i c = search needs
@@ -56,18 +56,18 @@ loop-less : tie.Need-loop-less Inv-loop μ-loop
 loop-less c = search needs
 
 loop-again : tie.Need-loop-again Inv-loop μ-loop
-unfolding singleBy
+unfolding passesBy singleBy
 loop-again c =
     let p = c .before .before in
     let a = p .before .args in
-    scan-passes (singleBy (a .t2)) (a .t1) (p .loop .i) (a .b) (fits (p .before)) (p .loop .inv) (omega arith)
-    (not-false (singleBy (a .t2) (getD (a .t1) (p .loop .i) 0)) (c .if1 .left))
+    scan-passes (passesBy (a .t2) (a .p)) (a .t1) (p .loop .i) (a .b) (fits (p .before)) (p .loop .inv) (omega arith)
+    (not-false (passesBy (a .t2) (a .p) (getD (a .t1) (p .loop .i) 0)) (c .if1 .left))
 
 returns-2 : tie.Need-returns-2 Inv-loop μ-loop
 returns-2 c =
     let p = c .before in
     let a = p .before .args in
-    scan-ends (singleBy (a .t2)) (a .t1) (p .loop .i) (a .b) (fits (p .before)) (p .loop .inv) (omega arith)
+    scan-ends (passesBy (a .t2) (a .p)) (a .t1) (p .loop .i) (a .b) (fits (p .before)) (p .loop .inv) (omega arith)
 
 pub all-single-spec : {M : Type 1} → statement M
 all-single-spec =

@@ -8,7 +8,7 @@ use lib.ListN.{take, drop, getD}
 use Rattle.weak_orders.specs.Rotation.{start}
 use Rattle.weak_orders.specs.Window.{all, num}
 use Rattle.successors.specs.Rules.{single, before}
-use Rattle.successors.proofs.Rule1Cases.{case3-plain, case3-low, case3-once, case3-clear, case3-scan}
+use Rattle.successors.proofs.Rule1Cases.{case3-plain, case3-low, case3-once, case3-clear, scan-case, not-zero}
 use Rattle.successors.proofs.Tables.{table-num}
 use Rattle.successors.proofs.Windows.{InArray, parts, first-in}
 use Rattle.successors.proofs.rank_rule.is_case3.Statement.{statement}
@@ -63,7 +63,7 @@ returns-4 c =
     let s = three .before .before .before in
     let not-plain = sym (s .pre .4) ∙ three .before .before .if1 .left in
     c .single-before-start .ensures
-    ∙ case3-scan (s .args .t1) (s .args .t3) (s .args .n) (s .pre .2) (s .pre .3) (start (head s ∷ tail s))
+    ∙ scan-case (s .args .t1) (s .args .t3) (s .args .n) (s .pre .2) (s .pre .3) 0 (single (window s)) (not-zero (window s) (s .pre .5)) (start (head s ∷ tail s))
     ∙ ap (λ u. all (single (window s)) (before (start u) (window s))) (sym (parts (array s)))
     ∙ case3-clear (window s) (head s) (tail s) (parts (array s)) not-plain (omega arith) (omega (arith, often s))
 

@@ -2,7 +2,7 @@
 use mathlib.Core.Bool.{true}
 use mathlib.Core.List.{List, _∷_}
 use mathlib.Core.Logic.{_≢_}
-use mathlib.Core.Path.{_≡_, sym, _∙_}
+use mathlib.Core.Path.{_≡_, refl, sym, _∙_}
 use Prim.Native.Nat.{ℕ, _≤_, _<_}
 use native.Mathlib.Omega.{arith}
 use borrow.Author.Needs.{needs}
@@ -11,7 +11,7 @@ use Rattle.weak_orders.specs.Rotation.{start}
 use Rattle.weak_orders.specs.Window.{num, isRank}
 use Rattle.weak_orders.proofs.RankForm.{says-rank, rank-one}
 use Rattle.weak_orders.proofs.Tests.{here}
-use Rattle.successors.proofs.Rule1Cases.{case4-low, case4-many, case4-one, case4-clear, case4-scan}
+use Rattle.successors.proofs.Rule1Cases.{case4-low, case4-many, case4-one, case4-clear, scan-case}
 use Rattle.successors.proofs.Singles.{under-fall, rank-fall, largest-above}
 use Rattle.successors.proofs.Tables.{table-num, largest-le}
 use Rattle.successors.proofs.Windows.{InArray, parts, first-in}
@@ -75,9 +75,6 @@ returns-2 c =
 returns-3 : tie.Need-returns-3
 returns-3 c = let s = c .before .before .before in case4-one (window s) (head s) (tail s) (parts (array s)) (s .args .p) (c .if3 .taken)
 
-array-write-without : tie.Need-array-write-without
-array-write-without c = omega (arith, below (c .before .before .before))
-
 cast-single-before-start : tie.Need-cast-single-before-start
 cast-single-before-start c = record { fits = omega (arith, below (c .before .before .before)) }
 
@@ -95,7 +92,7 @@ returns-4 c =
     let p = s .args .p in
     let once = sym (often s) ∙ three .before .if2 .left in
     c .single-before-start .ensures
-    ∙ case4-scan (s .args .t1) (s .args .t3) (s .args .n) (s .pre .2) (s .pre .3) p (start (p ∷ tail s)) (below s) (three .if3 .left)
+    ∙ scan-case (s .args .t1) (s .args .t3) (s .args .n) (s .pre .2) (s .pre .3) p _ (λ v m. refl) (start (p ∷ tail s))
     ∙ case4-clear (window s) (head s) (tail s) (parts (array s)) p (omega arith) once (three .if3 .left)
 
 pub is-case4-spec : {M : Type 1} → statement M
@@ -108,7 +105,6 @@ is-case4-spec =
     array-read-if2
     returns-2
     returns-3
-    array-write-without
     cast-single-before-start
     single-before-start-requires
     returns-4)

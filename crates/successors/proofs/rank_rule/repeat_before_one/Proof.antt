@@ -7,22 +7,23 @@ use Prim.Native.Nat.{ℕ, _≤_, _<_, _-_}
 use native.Mathlib.Omega.{arith}
 use native.Mathlib.Decide.{decLt}
 use borrow.Author.Needs.{needs}
-use borrow.Author.Tests.{ne-eqb}
+use lib.Dec.{eqb}
+use borrow.Author.Tests.{ne-eqb, not-true}
 use lib.ListN.{length, getD}
 use mir.Val.{Fits}
 use mir.Syntax.{w8}
 use Rattle.weak_orders.proofs.Lists.{all-in}
 use Rattle.weak_orders.proofs.Parts.{at-part}
-use Rattle.weak_orders.proofs.Tests.{not-true→false, false→not-true}
-use Rattle.successors.specs.ByTable.{singleBy}
+use Rattle.weak_orders.proofs.Tests.{by-test, not-true→false, false→not-true}
+use Rattle.successors.specs.ByTable.{singleBy, passesBy}
 use Rattle.successors.proofs.rank_rule.repeat_before_one.Statement.{statement}
 use Rattle.successors.proofs.rank_rule.repeat_before_one.Tie as tie
 
 abbrev Inv-loop : tie.InvT-loop
-Inv-loop n w t j₀ j = (1 ≤ j) × ((k : ℕ) → 0 < k → k < j → getD w k 0 ≢ 1)
+Inv-loop n p w t j₀ j = (1 ≤ j) × ((k : ℕ) → 0 < k → k < j → getD w k 0 ≢ 1)
 
 abbrev μ-loop : tie.MeasureT-loop
-μ-loop n w t j₀ j = n - j
+μ-loop n p w t j₀ j = n - j
 
 fits : (s : tie.Start Inv-loop μ-loop) → s .args .n ≤ length (s .args .t1)
 fits s = let l : length (s .args .t1) ≡ 16 = search needs in omega arith
@@ -48,16 +49,17 @@ array-read-if2 c =
     omega (arith, p .before .pre .1 _ (at-part (a .t1) 0 (a .n) (fits (p .before)) (p .loop .j) (omega arith) (omega arith)))
 
 returns-2 : tie.Need-returns-2 Inv-loop μ-loop
-unfolding singleBy
+unfolding passesBy singleBy
 returns-2 c _ k pos lt one =
     let p = c .before .before .before in
     let a = p .before .args in
     let v = getD (a .t1) (p .loop .j) 0 in
     let here : p .loop .j ≢ k = λ e. c .before .if1 .left (rw e one) in
     let later : ¬ (k < p .loop .j) = λ l. p .loop .inv .1 k pos l one in
-    let fails : singleBy (a .t3) v ≡ false = rw (ne-eqb v 1 (c .before .if1 .left), ne-eqb (getD (a .t3) v 0) 1 (c .if2 .taken)) in
+    let fails : passesBy (a .t3) (a .p) v ≡ false =
+    by-test (eqb v (a .p)) (λ e. rw e) (λ e. rw (e, ne-eqb v 1 (c .before .if1 .left), not-true (eqb (getD (a .t3) v 0) 1) (rw e at (c .if2 .taken)))) in
     not-true→false _ (λ t. false→not-true _ fails
-    (all-in (singleBy (a .t3)) t
+    (all-in (passesBy (a .t3) (a .p)) t
     (at-part (a .t1) 1 k (omega (arith, fits (p .before))) (p .loop .j) (omega arith) (omega (arith, here)))))
 
 add-j : tie.Need-add-j Inv-loop μ-loop

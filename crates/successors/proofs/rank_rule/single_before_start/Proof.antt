@@ -8,8 +8,7 @@ use lib.ListN.{take, drop, getD}
 use Rattle.weak_orders.specs.Rotation.{start}
 use Rattle.weak_orders.specs.Window.{all}
 use Rattle.weak_orders.proofs.RankForm.{says-rank}
-use Rattle.successors.specs.ByTable.{singleBy}
-use Rattle.successors.specs.Rules.{before}
+use Rattle.successors.specs.ByTable.{passesBy, scanBy}
 use Rattle.successors.proofs.Windows.{InArray, with-first, low-front, one-behind, before-array}
 use Rattle.successors.proofs.rank_rule.single_before_start.Statement.{statement}
 use Rattle.successors.proofs.rank_rule.single_before_start.Tie as tie
@@ -25,10 +24,11 @@ one : (s : tie.Start) → let k = start (other s) - 1 in (0 < k) × (k < s .args
 one s = one-behind (array s) (s .args .x) (s .pre .3) (says-rank (other s) .to (s .pre .4))
 
 scanned : (s : tie.Start) →
-    let test = singleBy (s .args .t) in
-    all test (drop 1 (take (start (other s) - 1) (s .args .w))) ≡ all test (before (start (other s)) (take (s .args .n) (s .args .w)))
+    all (passesBy (s .args .t) (s .args .p)) (drop 1 (take (start (other s) - 1) (s .args .w)))
+    ≡ scanBy (start (other s)) (s .args .t) (take (s .args .n) (s .args .w)) (s .args .p)
+unfolding scanBy
 scanned s =
-    let test = singleBy (s .args .t) in
+    let test = passesBy (s .args .t) (s .args .p) in
     sym (ap (all test) (before-array (s .args .w) (s .args .n) (start (other s)) (omega (arith, one s .1))))
 
 starts : (c : tie.After-least-rotation) → c .least-rotation .result .start ≡ start (other (c .before .before .before))
@@ -62,7 +62,7 @@ all-single-requires c κs =
 returns-2 : tie.Need-returns-2
 returns-2 c =
     let s = c .before .before .before .before .before in
-    let test = singleBy (s .args .t) in
+    let test = passesBy (s .args .t) (s .args .p) in
     c .all-single .ensures ∙ ap (λ k. all test (drop 1 (take (k - 1) (s .args .w)))) (starts (c .before .before)) ∙ scanned s
 
 pub single-before-start-spec : {M : Type 1} → statement M

@@ -38,51 +38,48 @@ head-low : (s : tie.Start) → head s ≤ 16
 head-low s = low s (head s) (first-in (array s))
 
 -- the table has how often a symbol occurs, which is at most n
-module _ (c : tie.After-counts) where
-  often : (v : ℕ) → v ≤ 16 → getD (c .counts .result) v 0 ≡ num (window (c .before)) v
-  often v le = table-num (c .counts .result) (window (c .before)) (c .counts .ensures) v le
+often : (s : tie.Start) (v : ℕ) → v ≤ 16 → getD (s .args .t3) v 0 ≡ num (window s) v
+often s v le = table-num (s .args .t3) (window s) (s .pre .3) v le
 
-  often-le : (v : ℕ) → v ≤ 16 → getD (c .counts .result) v 0 ≤ 16
-  often-le v le = omega (arith, often v le, num-le-length (window (c .before)) v, size (array (c .before)))
+often-le : (s : tie.Start) (v : ℕ) → v ≤ 16 → getD (s .args .t3) v 0 ≤ 16
+often-le s v le = omega (arith, often s v le, num-le-length (window s) v, size (array s))
 
-is-plain : (c : tie.After-all-single) → c .all-single .result ≡ isPlain (window (c .before .before))
+is-plain : (c : tie.After-all-single) → c .all-single .result ≡ isPlain (window (c .before))
 is-plain c =
-    let s = c .before .before in
-    c .all-single .ensures ∙ plain-scan (s .args .t1) (c .before .counts .result) (s .args .n) (low s) (c .before .counts .ensures)
+    let s = c .before in
+    c .all-single .ensures ∙ plain-scan (s .args .t1) (s .args .t3) (s .args .n) (low s) (s .pre .3) (s .pre .2)
 
 -- the rule as the code goes through it
 chain : (c : tie.After-all-single) (p : ℕ) →
-    let s = c .before .before in
-    let ones = getD (c .before .counts .result) 1 0 in
+    let s = c .before in
+    let ones = getD (s .args .t3) 1 0 in
     p ≡ largestBelow (window s) (head s) →
     rule1 (window s) ≡ cond (c .all-single .result && eqb (head s) (ones + 1)) 1 (
     cond (c .all-single .result && eqb (head s) 1) ones (
     cond (case3 (head s) (tail s)) (head s + num (window s) (head s) - 1) (
     cond (case4 (head s) (tail s) p) p (head s))))
 chain c p e =
-    let s = c .before .before in
-    let ones = getD (c .before .counts .result) 1 0 in
-    let is-ones = often (c .before) 1 (omega arith) in
-    rule1-chain (window s) (head s) (tail s) (parts (array s)) ones p (c .all-single .result) (is-plain c) is-ones e
+    let s = c .before in
+    let is-ones = often s 1 (omega arith) in
+    rule1-chain (window s) (head s) (tail s) (parts (array s)) (getD (s .args .t3) 1 0) p (c .all-single .result) (is-plain c) is-ones e
 
 -- and from case 3 on
 rest : (c : tie.Else2) (p : ℕ) →
-    let s = c .before .before .before .before in
+    let s = c .before .before .before in
     p ≡ largestBelow (window s) (head s) →
     rule1 (window s) ≡ cond (case3 (head s) (tail s)) (head s + num (window s) (head s) - 1) (cond (case4 (head s) (tail s) p) p (head s))
 rest c p e = chain (c .before .before) p e ∙ rw (c .before .if1 .left, c .if2 .left)
 
 is-largest : (c : tie.After-largest-below) →
-    let s = c .before .before .before .before .before .before .before in
+    let s = c .before .before .before .before .before .before in
     c .largest-below .result ≡ largestBelow (window s) (head s)
 is-largest c =
-    let p = c .before .before .before .before .before .before in
-    let s = p .before in
-    c .largest-below .ensures ∙ largestBy-largest (p .counts .result) (window s) (p .counts .ensures) (head s) (omega (arith, head-low s))
+    let s = c .before .before .before .before .before .before in
+    c .largest-below .ensures ∙ largestBy-largest (s .args .t3) (window s) (s .pre .3) (head s) (omega (arith, head-low s))
 
 -- and from case 4 on
 last : (c : tie.After-largest-below) →
-    let s = c .before .before .before .before .before .before .before in
+    let s = c .before .before .before .before .before .before in
     let p = c .largest-below .result in
     rule1 (window s) ≡ cond (case4 (head s) (tail s) p) p (head s)
 last c =
@@ -91,14 +88,11 @@ last c =
 
 largest-low : (c : tie.After-largest-below) → c .largest-below .result ≤ 16
 largest-low c =
-    let s = c .before .before .before .before .before .before .before in
+    let s = c .before .before .before .before .before .before in
     omega (arith, is-largest c, largest-le (window s) (head s), head-low s)
 
-counts-requires : tie.Need-counts-requires
-counts-requires c κs = search needs
-
 all-single-requires : tie.Need-all-single-requires
-all-single-requires c κs = (c .before .pre .1, low (c .before))
+all-single-requires c κs = (c .pre .1, low c)
 
 array-read-ones : tie.Need-array-read-ones
 array-read-ones c = search needs
@@ -118,44 +112,41 @@ returns-2 c = sym (chain (c .before .before) _ refl ∙ rw (c .before .if1 .left
 is-case3-requires : tie.Need-is-case3-requires
 is-case3-requires c κs =
     let p = c .before .before in
-    let s = p .before .before in
-    (s .pre .0, s .pre .1, low s, p .before .counts .ensures, is-plain p, s .pre .2)
+    let s = p .before in
+    (s .pre .0, s .pre .1, low s, s .pre .3, is-plain p, s .pre .2)
 
 cast-result : tie.Need-cast-result
 cast-result c = search needs
 
 array-read-result : tie.Need-array-read-result
-array-read-result c = omega (arith, head-low (c .before .before .before .before .before .before))
+array-read-result c = omega (arith, head-low (c .before .before .before .before .before))
 
 add-result : tie.Need-add-result
 add-result c =
-    let p = c .before .before .before .before .before in
-    record { fits = omega (arith, head-low (p .before), often-le p (head (p .before)) (head-low (p .before))) }
+    let s = c .before .before .before .before .before in
+    record { fits = omega (arith, head-low s, often-le s (head s) (head-low s)) }
 
 sub-result : tie.Need-sub-result
 sub-result c =
-    let p = c .before .before .before .before .before in
-    let s = p .before in
-    omega (arith, often p (head s) (head-low s), num-mem (window s) (head s) .1 (first-in (array s)))
+    let s = c .before .before .before .before .before in
+    omega (arith, often s (head s) (head-low s), num-mem (window s) (head s) .1 (first-in (array s)))
 
 returns-3 : tie.Need-returns-3
 returns-3 c =
-    let p = c .before .before .before .before in
-    let s = p .before .before in
+    let s = c .before .before .before .before .before in
     let taken = sym (c .before .is-case3 .ensures) ∙ c .if3 .taken in
-    sym (rest (c .before .before) _ refl ∙ rw (taken, often (p .before) (head s) (head-low s)))
+    sym (rest (c .before .before) _ refl ∙ rw (taken, often s (head s) (head-low s)))
 
 cast-largest-below : tie.Need-cast-largest-below
 cast-largest-below c = search needs
 
 largest-below-requires : tie.Need-largest-below-requires
-largest-below-requires c κs = omega (arith, head-low (c .before .before .before .before .before .before))
+largest-below-requires c κs = omega (arith, head-low (c .before .before .before .before .before))
 
 is-case4-requires : tie.Need-is-case4-requires
 is-case4-requires c κs =
-    let p = c .before .before .before .before .before in
-    let s = p .before .before in
-    (s .pre .0, s .pre .1, low s, p .before .counts .ensures, is-largest c, s .pre .2)
+    let s = c .before .before .before .before .before .before in
+    (s .pre .0, s .pre .1, low s, s .pre .3, is-largest c, s .pre .2)
 
 cast-result-2 : tie.Need-cast-result-2
 cast-result-2 c = record { fits = omega (arith, largest-low (c .before .before)) }
@@ -176,7 +167,6 @@ pub successor1-spec : {M : Type 1} → statement M
 successor1-spec =
     tie.close
     (tie.spec
-    counts-requires
     all-single-requires
     array-read-ones
     array-read-a
