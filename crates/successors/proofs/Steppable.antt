@@ -1,7 +1,7 @@
 -- What it says that a window can be stepped, and that it is accepted. Assumes nothing.
-use mathlib.Core.Bool.{true, false, cond, not, _&&_}
+use mathlib.Core.Bool.{true, cond, not, _&&_}
 use mathlib.Core.List.{List}
-use mathlib.Core.Path.{_≡_, refl, sym, _∙_}
+use mathlib.Core.Path.{_≡_, refl}
 use Prim.Native.Nat.{ℕ, _≤_}
 use native.Mathlib.Omega.{arith}
 use lib.Dec.{eqb}
@@ -9,16 +9,16 @@ use lib.ListN.{length, take}
 use lib.Seq.{length-take-le}
 use borrow.Author.Tests.{eq-eqb}
 use Rattle.refusals.specs.declared.Cause.{Cause}
-use Rattle.refusals.specs.declared.Cause.the-variants.{RuleNumber, NotWeakOrder}
+use Rattle.refusals.specs.declared.Cause.the-variants.{RuleNumber}
 use Rattle.refusals.specs.declared.Verdict.{Verdict}
 use Rattle.refusals.specs.declared.Verdict.the-variants.{Accepted, Refused}
 use Rattle.weak_orders.specs.Says.{Says}
 use Rattle.weak_orders.specs.Converted.{judgedBy, judgedIn}
-use Rattle.weak_orders.specs.Window.{isLength, padded, shifted, loaded}
+use Rattle.weak_orders.specs.Window.{isLength, isRank, padded, shifted, loaded}
 use Rattle.weak_orders.proofs.FormTests.{says-length}
-use Rattle.weak_orders.proofs.Judged.{refused, judged-array, loaded-judged, judged-whole, by-loaded}
+use Rattle.weak_orders.proofs.Judged.{refused, loaded-judged, judged-whole, by-loaded}
 use Rattle.weak_orders.proofs.Tests.{_∈_, by-test, says-no, says-and, says-itself}
-use Rattle.successors.specs.NextSymbol.{steppable, stepOrStay, judged, judgedNumbers, symbolBy, nextSymbol}
+use Rattle.successors.specs.NextSymbol.{steppable, stepOrStay, judged, symbolBy, nextSymbol}
 use Rattle.successors.specs.declared.Next.the-variants.{Symbol, Refused as NoSymbol}
 use Rattle.successors.specs.Rules.{ruleOf, inForm, isRule, step}
 use Rattle.successors.proofs.RuleNumbers.{form-bound}
@@ -44,16 +44,6 @@ module _ (rule n : ℕ) (w : List ℕ) (l : length w ≡ 16) where
   unfolding judged
   accepted (known, (long, form)) = rw (long, known, whole long, form)
 
-  -- so it gets the rule's symbol there, and else, where n and the rule's number pass, it is in another form
-  pub formed-symbol : Steppable rule n w → nextSymbol rule n (take n w) ≡ Symbol (ruleOf rule (take n w))
-  unfolding nextSymbol symbolBy
-  formed-symbol s = rw (accepted s)
-
-  pub unformed-symbol : isLength n ≡ true → isRule rule ≡ true → inForm rule (take n w) ≡ false →
-      nextSymbol rule n (take n w) ≡ NoSymbol NotWeakOrder
-  unfolding nextSymbol symbolBy judged
-  unformed-symbol long known f = rw (long, known, whole long, f)
-
   pub steppable-of : judged rule n (take n w) ≡ Accepted → Steppable rule n w
   unfolding judged
   steppable-of e =
@@ -64,36 +54,16 @@ module _ (rule n : ℕ) (w : List ℕ) (l : length w ≡ 16) where
       (λ b. absurd (refused (rw (a, b) at e))))
       (λ a. absurd (refused (rw a at e)))
 
--- the tests of n and of the rule's number alone: where they pass, the form decides, and else the verdict is theirs
-module _ (rule n : ℕ) where
-  pub numbers-passed : judgedNumbers rule n ≡ Accepted → (isLength n ≡ true) × (isRule rule ≡ true)
-  unfolding judgedNumbers
-  numbers-passed e =
-      by-test (isLength n) (λ a.
-      by-test (isRule rule) (λ b. (a, b))
-      (λ b. absurd (refused (rw (a, b) at e))))
-      (λ a. absurd (refused (rw a at e)))
-
-  pub judged-numbers : {c : Cause} (u : List ℕ) → judgedNumbers rule n ≡ Refused c → judged rule n u ≡ Refused c
-  unfolding judgedNumbers judged
-  judged-numbers u e =
-      by-test (isLength n) (λ a.
-      by-test (isRule rule) (λ b. absurd (refused (sym (rw (a, b) at e))))
-      (λ b. rw (a, b) (rw (a, b) at e)))
-      (λ a. rw a (rw a at e))
-
 -- the rule's test between the two of a window in a form
 by-form : (rule n : ℕ) (u : List ℕ) →
     judged rule n u ≡ cond (isLength n && not (isRule rule)) (Refused RuleNumber) (judgedIn (inForm rule) n u)
 unfolding judged judgedIn judgedBy
 by-form rule n u = by-test (isLength n) (λ a. by-test (isRule rule) (λ b. rw (a, b)) (λ b. rw (a, b))) (λ a. rw a)
 
--- where n and the rule's number pass, only the form is left
-pub judged-form : (rule n : ℕ) (w : List ℕ) → length w ≡ 16 → judgedNumbers rule n ≡ Accepted →
-    judgedBy n (isLength n && inForm rule (take n w)) ≡ judged rule n (take n w)
-judged-form rule n w l e =
-    let (long, known) = numbers-passed rule n e in
-    judged-array (inForm rule) n w l ∙ sym (by-form rule n (take n w) ∙ rw (long, known))
+-- under rule 1 those two are all
+pub judged-ranks : (n : ℕ) (u : List ℕ) → judgedIn isRank n u ≡ judged 1 n u
+unfolding judged judgedIn judgedBy isRule inForm
+judged-ranks n u = refl
 
 -- a slice is judged as the definition says, also where it is not n long
 pub judged-loaded : (rule n : ℕ) (s : List ℕ) → judged rule n (take n (loaded n s)) ≡ judged rule n s

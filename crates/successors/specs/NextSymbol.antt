@@ -32,14 +32,6 @@ judged rule n w =
     cond (not (eqb (length w) n && inForm rule w)) (Failed NotWeakOrder)
     Passed))
 
--- the first two of these alone
-unfoldable pub judgedNumbers : ℕ → ℕ → Verdict
-unfolding isLength isRule
-judgedNumbers rule n =
-    cond (not (isLength n)) (Failed WindowLength) (
-    cond (not (isRule rule)) (Failed RuleNumber)
-    Passed)
-
 -- a symbol for an answer, by the verdict on the window; and what a direct call returns for an answer
 unfoldable pub symbolBy : Verdict → ℕ → Next
 symbolBy Passed s = Symbol s

@@ -1,17 +1,13 @@
 // Rules 2 and 3, on windows in height form.
-use crate::Next;
 use crate::rotations::is_greatest;
-use refusals::Cause;
 ghost use mathlib.Core.Bool.{true};
 ghost use mathlib.Core.List.{_∷_};
-ghost use mathlib.Core.Logic.{_≢_};
 ghost use mathlib.Core.Path.{_≡_};
 ghost use Prim.Native.Nat.{_≤_};
 ghost use lib.Dec.{leb};
 ghost use lib.ListN.{take, drop};
-ghost use Rattle.weak_orders.specs.Window.{all, range, occurs, isLength, isHeight};
-ghost use Rattle.successors.specs.NextSymbol.{nextSymbol};
-ghost use Rattle.successors.specs.Rules.{inR, isRule, rule2, rule3};
+ghost use Rattle.weak_orders.specs.Window.{all, range, occurs, isHeight};
+ghost use Rattle.successors.specs.Rules.{inR, rule2, rule3};
 
 // No symbol behind the first is larger than x.
 fn none_above(w: [u8; 16], n: usize, x: u8) -> bool
@@ -81,7 +77,7 @@ fn in_r(w: [u8; 16], n: usize, x: u8) -> bool
 
 // The symbol that follows a window by rule 2. Where a symbol behind is larger than w1 + 1, no first symbol up to w1 + 1 puts the
 // window in R: most windows end there.
-fn successor2(w: [u8; 16], n: usize) -> u8
+pub(crate) fn successor2(w: [u8; 16], n: usize) -> u8
     requires { ⌜ (1 ≤ n) × (n ≤ 16) × (isHeight (take n w) ≡ true) ⌝ }
     ensures { λ r. ⌜ r ≡ rule2 (take n w) ⌝ }
 {
@@ -104,7 +100,7 @@ fn successor2(w: [u8; 16], n: usize) -> u8
 }
 
 // The symbol that follows a window by rule 3, with the same first test.
-fn successor3(w: [u8; 16], n: usize) -> u8
+pub(crate) fn successor3(w: [u8; 16], n: usize) -> u8
     requires { ⌜ (1 ≤ n) × (n ≤ 16) × (isHeight (take n w) ≡ true) ⌝ }
     ensures { λ r. ⌜ r ≡ rule3 (take n w) ⌝ }
 {
@@ -124,20 +120,4 @@ fn successor3(w: [u8; 16], n: usize) -> u8
         return top;
     }
     up
-}
-
-// The symbol that follows a window of n in height form by either rule; any other window fails test 8.
-pub(crate) fn next_in_heights(rule: u8, w: [u8; 16], n: usize) -> Next
-    requires { ⌜ (isLength n ≡ true) × (isRule rule ≡ true) × (rule ≢ 1) ⌝ }
-    ensures { λ r. ⌜ r ≡ nextSymbol rule n (take n w) ⌝ }
-{
-    if !weak_orders::is_height(w, n) {
-        return Next::Refused(Cause::NotWeakOrder);
-    }
-    if rule == 2 {
-        let s = successor2(w, n);
-        return Next::Symbol(s);
-    }
-    let s = successor3(w, n);
-    Next::Symbol(s)
 }

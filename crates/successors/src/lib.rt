@@ -6,7 +6,8 @@ mod height_rules;
 mod rank_rule;
 mod rotations;
 
-use height_rules::next_in_heights;
+use height_rules::successor2;
+use height_rules::successor3;
 use rank_rule::next_in_ranks;
 use refusals::Cause;
 use refusals::Verdict;
@@ -14,7 +15,7 @@ ghost use mathlib.Core.Bool.{_&&_};
 ghost use mathlib.Core.Path.{_≡_};
 ghost use lib.ListN.{take};
 ghost use Rattle.weak_orders.specs.Window.{isLength};
-ghost use Rattle.successors.specs.NextSymbol.{steppable, judged, judgedNumbers, nextSymbol, stepOrStay};
+ghost use Rattle.successors.specs.NextSymbol.{steppable, judged, nextSymbol, stepOrStay};
 ghost use Rattle.successors.specs.Rules.{inForm, isRule};
 
 // The first n symbols are a weak order of n in the rule's form: ranks for rule 1, heights for the others.
@@ -41,9 +42,9 @@ pub fn can_step(rule: u8, w: [u8; 16], n: usize) -> bool
     is_rule(rule) & in_form(rule, w, n)
 }
 
-// Tests 6 and 7: a window's length, and a rule's number.
-fn judge_numbers(rule: u8, n: usize) -> Verdict
-    ensures { λ r. ⌜ r ≡ judgedNumbers rule n ⌝ }
+// Tests 6, 7 and 8 of a window under a rule.
+pub fn judge(rule: u8, w: [u8; 16], n: usize) -> Verdict
+    ensures { λ r. ⌜ r ≡ judged rule n (take n w) ⌝ }
 {
     if !weak_orders::is_length(n) {
         return Verdict::Refused(Cause::WindowLength);
@@ -51,18 +52,10 @@ fn judge_numbers(rule: u8, n: usize) -> Verdict
     if !is_rule(rule) {
         return Verdict::Refused(Cause::RuleNumber);
     }
-    Verdict::Accepted
-}
-
-// Tests 6, 7 and 8 of a window under a rule.
-pub fn judge(rule: u8, w: [u8; 16], n: usize) -> Verdict
-    ensures { λ r. ⌜ r ≡ judged rule n (take n w) ⌝ }
-{
-    let verdict = judge_numbers(rule, n);
-    match verdict {
-        Verdict::Accepted => weak_orders::judge(n, in_form(rule, w, n)),
-        Verdict::Refused(cause) => Verdict::Refused(cause),
+    if !in_form(rule, w, n) {
+        return Verdict::Refused(Cause::NotWeakOrder);
     }
+    Verdict::Accepted
 }
 
 // The symbol that follows, or why there is none.
@@ -74,13 +67,16 @@ pub enum Next {
 pub fn next_symbol(rule: u8, w: [u8; 16], n: usize) -> Next
     ensures { λ r. ⌜ r ≡ nextSymbol rule n (take n w) ⌝ }
 {
-    let verdict = judge_numbers(rule, n);
+    if rule == 1 {
+        return next_in_ranks(w, n);
+    }
+    let verdict = judge(rule, w, n);
     match verdict {
         Verdict::Accepted => {
-            if rule == 1 {
-                return next_in_ranks(w, n);
+            if rule == 2 {
+                return Next::Symbol(successor2(w, n));
             }
-            next_in_heights(rule, w, n)
+            Next::Symbol(successor3(w, n))
         }
         Verdict::Refused(cause) => Next::Refused(cause),
     }

@@ -2,7 +2,7 @@
 // as t. Every other function here reads t, and none counts again.
 use crate::Next;
 use crate::rotations::least_rotation;
-use refusals::Cause;
+use refusals::Verdict;
 ghost use mathlib.Core.Bool.{true};
 ghost use mathlib.Core.List.{_∷_};
 ghost use mathlib.Core.Path.{_≡_};
@@ -10,7 +10,7 @@ ghost use Prim.Native.Nat.{_≤_, _<_};
 ghost use lib.ListN.{take, drop, getD};
 ghost use Rattle.weak_orders.specs.Rotation.{start};
 ghost use Rattle.weak_orders.specs.Tables.{tally};
-ghost use Rattle.weak_orders.specs.Window.{all, isLength, isRank};
+ghost use Rattle.weak_orders.specs.Window.{all, isRank};
 ghost use Rattle.successors.specs.ByTable.{passesBy, scanBy, largestBy, Low, RepeatBeforeOne};
 ghost use Rattle.successors.specs.NextSymbol.{nextSymbol};
 ghost use Rattle.successors.specs.Rules.{isPlain, largestBelow, case3, case4, rule1};
@@ -140,15 +140,17 @@ fn successor1(w: [u8; 16], n: usize, t: [u8; 18]) -> u8
     a
 }
 
-// The symbol that follows a window of n in rank form; any other fails test 8.
+// The symbol that follows a window by rule 1, or why there is none: tests 6 and 8, as the number 1 passes test 7.
 pub(crate) fn next_in_ranks(w: [u8; 16], n: usize) -> Next
-    requires { ⌜ isLength n ≡ true ⌝ }
     ensures { λ r. ⌜ r ≡ nextSymbol 1 n (take n w) ⌝ }
 {
     let t = weak_orders::counts(w, n);
-    if !weak_orders::is_rank_table(t, n) {
-        return Next::Refused(Cause::NotWeakOrder);
+    let verdict = weak_orders::judge(n, weak_orders::is_rank_table(t, n));
+    match verdict {
+        Verdict::Accepted => {
+            let s = successor1(w, n, t);
+            Next::Symbol(s)
+        }
+        Verdict::Refused(cause) => Next::Refused(cause),
     }
-    let s = successor1(w, n, t);
-    Next::Symbol(s)
 }
