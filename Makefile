@@ -6,7 +6,7 @@ HEADERS = include/wko.h include/wko_frames.h
 SOURCES := crates.txt $(shell find crates -name '*.rt' -o -name '*.antt')
 EXAMPLES = target/host/example target/host/link target/host/fill
 TESTS = target/host/test_calls target/host/test_session target/host/stack
-MODELS = target/host/replay_records target/host/sheet_answers
+MODELS = target/host/replay_records target/host/event_records target/host/sheet_answers
 
 .PHONY: help run test lib host host-test install uninstall dev fmt edits rings graph tables trust size bench clean
 

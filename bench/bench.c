@@ -113,7 +113,7 @@ static unsigned send_steps(struct wko_session *s, uint64_t count)
 /* Step frames through the session, beside the bare next symbol. */
 static void frames(int n, uint64_t count)
 {
-    const struct wko_setting setting = {0, 100};
+    const struct wko_setting setting = {0, 100, {0}};
     uint8_t begin[40], answer[40], w[16];
     double by_frame = 1e9, by_call = 1e9;
     unsigned wrong = 0;

@@ -54,7 +54,7 @@ static int ask(struct link *link, const uint8_t *frame, struct wko_answer *answe
 
 static void begin(struct link *link)
 {
-    const struct wko_setting setting = {-1000, 100};
+    const struct wko_setting setting = {-1000, 100, {0}};
     const uint8_t start[N] = {1, 1, 1};
     uint8_t frame[WKO_FRAME_LEN];
     struct wko_answer answer;

@@ -1,10 +1,10 @@
 #!/bin/sh
-# Nothing is lost silently: what round and replay could not read or write, they say in one line on standard error; of a good run they say nothing.
+# Nothing is lost silently: what round, replay and replay_events could not read or write, they say in one line on standard error; of a good
+# run they say nothing.
 set -u
-# replay is no target of the Makefile
-rt check replay >target/replay.log 2>&1 || { tail -n 20 target/replay.log && exit 1; }
+# these two are no targets of the Makefile
+rt check replay replay_events >target/replay.log 2>&1 || { tail -n 20 target/replay.log && exit 1; }
 round=target/bin/round
-replay=target/bin/replay
 said=target/host/said
 input=target/host/input
 trap 'rm -f $said $input' EXIT
@@ -22,37 +22,53 @@ says "round of a directory" "round: could not read the sheet: Is a directory"
 $round <crates/round/stdin >&- 2>$said
 says "round with no standard output" "round: could not write the round: Bad file descriptor"
 
-[ "$(printf '\000\000\001\000' | $replay 2>$said | wc -c)" -eq 3 ] || { echo "replay of two records: not 3 bytes" && status=1; }
-says "replay of two records" ""
-$replay </dev/null 2>$said
-says "replay of no records" ""
-$replay <. 2>$said
-says "replay of a directory" "replay: could not read a record: Is a directory"
-$replay <crates/replay/stdin >&- 2>$said
-says "replay with no standard output" "replay: could not write an answer: Bad file descriptor"
+# The two programs that play records. A frame's record is the same for both, but for the F in front of replay_events'.
+for program in replay replay_events; do
+  play=target/bin/$program
+  f=
+  [ $program = replay ] || f=F
+  [ "$(printf '%b' "$f\0000\0000$f\0001\0000" | $play 2>$said | wc -c)" -eq 3 ] || { echo "$program of two records: not 3 bytes" && status=1; }
+  says "$program of two records" ""
+  $play </dev/null 2>$said
+  says "$program of no records" ""
+  $play <. 2>$said
+  says "$program of a directory" "$program: could not read a record: Is a directory"
+  $play <crates/$program/stdin >&- 2>$said
+  says "$program with no standard output" "$program: could not write an answer: Bad file descriptor"
+  if [ -c /dev/full ]; then
+    $play <crates/$program/stdin >/dev/full 2>$said
+    says "$program to a full device" "$program: could not write an answer: No space left on device"
+  fi
 
-# The stored run ends with a record that is cut off within its frame. The others are cut off sooner, behind a whole record.
-$replay <crates/replay/stdin 2>$said | cmp - crates/replay/stdout || status=1
-says "replay of its stored run" "replay: the last record is cut off"
-for rest in '\0050' '\0050\0050'; do
-  printf '\000\000%b' "$rest" | $replay >/dev/null 2>$said
-  says "replay of a record cut to $rest" "replay: the last record is cut off"
+  # The stored run ends with a record that is cut off. The others are cut off elsewhere, behind a whole record.
+  $play <crates/$program/stdin 2>$said | cmp - crates/$program/stdout || status=1
+  says "$program of its stored run" "$program: the last record is cut off"
+  for rest in "$f\0050" "$f\0050\0050" "$f\0050\0050WKO1Q"; do
+    printf '%b' "$f\0000\0000$rest" | $play >/dev/null 2>$said
+    says "$program of a record cut to $rest" "$program: the last record is cut off"
+  done
+
+  # A million records of two zeros, and one byte more.
+  yes "${f}00" | head -n 1000000 | tr -d '\n' | tr 0 '\000' >$input
+  $play <$input >/dev/null 2>$said
+  says "$program of a million records" ""
+  printf '\000' >>$input
+  $play <$input >/dev/null 2>$said
+  says "$program of more than a million records" "$program: stopped after 1000000 records"
 done
 
-# A million records of two zeros, and one byte more.
-head -c 2000000 /dev/zero >$input
-$replay <$input >/dev/null 2>$said
-says "replay of a million records" ""
-printf '\000' >>$input
-$replay <$input >/dev/null 2>$said
-says "replay of more than a million records" "replay: stopped after 1000000 records"
+# Only replay_events has first bytes and level files.
+for rest in F L 'L\0001' 'L\0001\0000' 'L\0000\0001d level'; do
+  printf 'F\000\000%b' "$rest" | $play >/dev/null 2>$said
+  says "replay_events of a record cut to $rest" "replay_events: the last record is cut off"
+done
+[ "$(printf 'L\000\000f' | $play 2>$said | wc -c)" -eq 1 ] || { echo "replay_events of an empty level file: not 1 byte" && status=1; }
+says "replay_events of an unknown record" "replay_events: a record starts with neither F nor L"
 
 if [ -c /dev/full ]; then
   $round <crates/round/stdin >/dev/full 2>$said
   says "round to a full device" "round: could not write the round: No space left on device"
   ! make --no-print-directory run >/dev/full 2>/dev/null || { echo "make run to a full device: passed" && status=1; }
-  $replay <crates/replay/stdin >/dev/full 2>$said
-  says "replay to a full device" "replay: could not write an answer: No space left on device"
 fi
 
 # A reader that leaves early: where the pipe's signal is ignored the write fails.
@@ -63,5 +79,5 @@ printf 'n rule top spacing start\n8 1 -1000 100 1,1,1,1,1,1,1,1\n' >$input
   [ $? -ne 124 ] || echo "timed out" >>$said
 ) | head -c 1000 >/dev/null
 says "round whose reader leaves" "round: could not write the round: Broken pipe"
-[ $status -eq 0 ] && echo "round and replay: what is not read or written is said"
+[ $status -eq 0 ] && echo "round, replay and replay_events: what is not read or written is said"
 exit $status

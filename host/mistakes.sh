@@ -123,6 +123,7 @@ mistake 9 "$line" "thousandths of a dBm" "${title}2 1 -90000 1000 1,1\n"
 
 line="spacing is not 25 to 500, in hundredths of a dB"
 mistake 9 "$line" "spacing 0" "${title}2 1 -1000 0 1,1\n"
+mistake 9 "$line" "top and spacing 0, which asks for a table in a frame" "${title}2 1 0 0 1,1\n"
 mistake 9 "$line" "a tenth of a dB" "${title}2 1 -1000 10 1,1\n"
 mistake 9 "$line" "spacing too small for one level" "${title}1 1 -1000 24 1\n"
 mistake 9 "$line" "spacing too large" "${title}2 1 -1000 501 1,1\n"

@@ -1,5 +1,7 @@
 /* Documents 01, 02 and 002 in plain C, as they are written: no thought of speed, no shared code with the library. */
 #include "reference.h"
+#include <stdio.h>
+#include <stdlib.h>
 #include <string.h>
 
 static int num(const uint8_t *w, int n, int v)
@@ -308,6 +310,48 @@ static long nearest_multiple(long x)
 long ref_level(int rule, long top, long spacing, int symbol)
 {
     return nearest_multiple(top - (rule == 1 ? symbol - 1 : symbol) * spacing);
+}
+
+int ref_table_ok(const int16_t *table)
+{
+    for (int d = 0; d < 16; d++) {
+        if (table[d] < -12000 || table[d] > 2000 || table[d] % 25 != 0)
+            return 0;
+        if (d > 0 && table[d] >= table[d - 1])
+            return 0;
+    }
+    return 1;
+}
+
+size_t ref_write_table(const int16_t *table, char *text)
+{
+    char line[24];
+    strcpy(text, "d level\n");
+    for (int d = 0; d < 16; d++) {
+        snprintf(line, sizeof line, "%d %d\n", d, table[d]);
+        strcat(text, line);
+    }
+    return strlen(text);
+}
+
+/* Takes what numbers there are, however they stand, and judges the file by what would have been written for them: a table has one text, as
+ * decimals have no leading zeros and all else is fixed. */
+int ref_read_table(const uint8_t *file, size_t len, int16_t *table)
+{
+    char text[REF_FILE + 1] = "", good[REF_FILE + 1], *at;
+    if (len == 0 || len > REF_FILE)
+        return 0;
+    memcpy(text, file, len);
+    at = text + strcspn(text, "\n");
+    for (int d = 0; d < 16; d++) {
+        long level;
+        strtol(at, &at, 10);
+        level = strtol(at, &at, 10);
+        if (level < -12000 || level > 2000)
+            return 0;
+        table[d] = (int16_t)level;
+    }
+    return ref_table_ok(table) && ref_write_table(table, good) == len && memcmp(good, file, len) == 0;
 }
 
 void ref_random_heights(uint64_t (*next)(void), int n, uint8_t *out)

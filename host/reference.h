@@ -2,6 +2,7 @@
  * benchmarks. */
 #ifndef REFERENCE_H
 #define REFERENCE_H
+#include <stddef.h>
 #include <stdint.h>
 
 int ref_is_rank(const uint8_t *w, int n);
@@ -22,9 +23,16 @@ int ref_agrees(const uint8_t *p, const uint8_t *w, int n);
 int ref_fillable_by_trying(const uint8_t *p, int n);
 int ref_fillable_by_counting(const uint8_t *p, int n);
 
-/* Whether a level setting passes test 9, and the level of a symbol. */
+/* Even spacing: whether top and spacing pass test 9, and the level of a symbol. */
 int ref_setting_ok(int n, long top, long spacing);
 long ref_level(int rule, long top, long spacing, int symbol);
+
+/* Document 02, Paper 4: whether sixteen levels are a table; the text of the file that has them, good or not, into REF_FILE + 1 bytes, of which it
+ * gives the length; and whether a file is the level file of a table, which is then in `table`. */
+enum { REF_FILE = 512 };
+int ref_table_ok(const int16_t *table);
+size_t ref_write_table(const int16_t *table, char *text);
+int ref_read_table(const uint8_t *file, size_t len, int16_t *table);
 
 /* A random weak order of n in height form, with few or many ties; `next` gives 64 random bits. */
 void ref_random_heights(uint64_t (*next)(void), int n, uint8_t *out);

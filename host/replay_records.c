@@ -1,63 +1,7 @@
 /* Writes the test of the program `replay`: records to the first file named, and what the independent model answers to the second.
  * The two files are kept in crates/replay as stdin and stdout. */
-#include "../include/wko_frames.h"
+#include "records.h"
 #include "reference.h"
-#include "session_model.h"
-#include <stdio.h>
-#include <stdlib.h>
-#include <string.h>
-
-static FILE *records, *answers;
-static struct wko_session session;
-static int seen[13];
-
-static void send(const uint8_t *frame, size_t frame_len, size_t answer_len)
-{
-    uint8_t answer[255];
-    int number;
-    memset(answer, 165, sizeof answer);
-    number = model_exchange(&session, frame, frame_len, answer, answer_len);
-    seen[number]++;
-    fputc((int)answer_len, records);
-    fputc((int)frame_len, records);
-    fwrite(frame, 1, frame_len, records);
-    fputc(number, answers);
-    fwrite(answer, 1, answer_len, answers);
-}
-
-/* The frame that is built, with room behind it for one that is too long. */
-static uint8_t frame[255];
-
-/* The window stands there whole, whatever n says. */
-static uint8_t *begin(int n, int rule, int top, int spacing, const char *window)
-{
-    struct wko_setting setting;
-    uint8_t start[255] = {0};
-    setting.top = (int16_t)top;
-    setting.spacing = (uint16_t)spacing;
-    wko_build_begin(frame, (uint8_t)n, (uint8_t)rule, setting, start);
-    for (int i = 0; window[i] != 0; i++)
-        frame[24 + i] = (uint8_t)(window[i] - '0');
-    return frame;
-}
-
-static uint8_t *step(uint64_t number)
-{
-    wko_build_step(frame, number);
-    return frame;
-}
-
-static uint8_t *query(void)
-{
-    wko_build_query(frame);
-    return frame;
-}
-
-static uint8_t *changed(uint8_t *f, int at, int value)
-{
-    f[at] = (uint8_t)value;
-    return f;
-}
 
 /* A whole round, each step sent twice, with a query in the middle and a step past the end. */
 static void round_of(int n, int rule, const char *window)
@@ -114,10 +58,8 @@ static void refusals(void)
 
 int main(int argc, char **argv)
 {
-    if (argc != 3 || !(records = fopen(argv[1], "wb")) || !(answers = fopen(argv[2], "wb"))) {
-        fprintf(stderr, "usage: replay_records RECORDS ANSWERS\n");
+    if (!open_files(argc, argv))
         return 2;
-    }
     refusals();
     round_of(1, 1, "1");
     round_of(1, 2, "0");

@@ -1,4 +1,4 @@
-/* Document 01, "Frames" and "Turned down", in plain C. */
+/* Document 01, "Frames" and "Turned down", and document 02, Paper 4, in plain C. */
 #include "session_model.h"
 #include "reference.h"
 #include <string.h>
@@ -19,30 +19,48 @@ static uint64_t little_endian(const uint8_t *p, int bytes)
     return x;
 }
 
-/* Tests 6 to 9 of a round: 0, or the number of the first that fails. */
-static int round_refusal(uint64_t n, int rule, long top, long spacing, const uint8_t *window)
+/* Document 02, Paper 4: top 0 and spacing 0 ask for the table. */
+static int on_table(const struct wko_setting *setting)
 {
-    if (n < 1 || n > 16)
+    return setting->top == 0 && setting->spacing == 0;
+}
+
+/* Test 9, which judges a round on a table by its copy. */
+static int setting_ok(int n, const struct wko_setting *setting)
+{
+    return on_table(setting) ? ref_table_ok(setting->table) : ref_setting_ok(n, setting->top, setting->spacing);
+}
+
+/* Tests 6 to 9 of the session's round: 0, or the number of the first that fails. */
+static int round_refusal(const struct wko_session *s)
+{
+    if (s->n < 1 || s->n > 16)
         return 6;
-    if (rule < 1 || rule > 3)
+    if (s->rule < 1 || s->rule > 3)
         return 7;
-    if (!ref_in_form(rule, window, (int)n) || !all_zero(window, (int)n, 15))
+    if (!ref_in_form(s->rule, s->window, (int)s->n) || !all_zero(s->window, (int)s->n, 15))
         return 8;
-    if (!ref_setting_ok((int)n, top, spacing))
+    if (!setting_ok((int)s->n, &s->setting))
         return 9;
     return 0;
 }
 
 int model_has_begun(const struct wko_session *s)
 {
-    return s->begun == 1 && round_refusal(s->n, s->rule, s->setting.top, s->setting.spacing, s->window) == 0
-           && s->done <= ref_count((int)s->n);
+    return s->begun == 1 && round_refusal(s) == 0 && s->done <= ref_count((int)s->n);
+}
+
+long model_level(const struct wko_session *s, int symbol)
+{
+    if (on_table(&s->setting))
+        return s->setting.table[s->rule == 1 ? symbol - 1 : symbol];
+    return ref_level(s->rule, s->setting.top, s->setting.spacing, symbol);
 }
 
 static void write_answer(const struct wko_session *s, int with_symbol, uint8_t *answer)
 {
     int different = 0, n = (int)s->n, symbol = s->window[n - 1];
-    long level = ref_level(s->rule, s->setting.top, s->setting.spacing, symbol);
+    long level = model_level(s, symbol);
     for (int v = 0; v < 256; v++)
         different += memchr(s->window, v, (size_t)n) != NULL;
     memcpy(answer, "WKA1", 4);
@@ -58,6 +76,7 @@ static void write_answer(const struct wko_session *s, int with_symbol, uint8_t *
     memcpy(answer + 24, s->window, 16);
 }
 
+/* The table that is held stays; a round that asks for it takes a copy, and another round has none. */
 static int begin(struct wko_session *s, const uint8_t *f, uint8_t *answer)
 {
     struct wko_session next;
@@ -71,7 +90,10 @@ static int begin(struct wko_session *s, const uint8_t *f, uint8_t *answer)
     next.setting.top = (int16_t)(uint16_t)little_endian(f + 16, 2);
     next.setting.spacing = (uint16_t)little_endian(f + 18, 2);
     memcpy(next.window, f + 24, 16);
-    refusal = round_refusal(next.n, next.rule, next.setting.top, next.setting.spacing, next.window);
+    memcpy(next.held, s->held, sizeof next.held);
+    if (on_table(&next.setting))
+        memcpy(next.setting.table, s->held, sizeof s->held);
+    refusal = round_refusal(&next);
     if (refusal != 0)
         return refusal;
     *s = next;
@@ -105,6 +127,15 @@ static int query(struct wko_session *s, const uint8_t *f, uint8_t *answer)
     if (!model_has_begun(s))
         return 10;
     write_answer(s, 0, answer);
+    return 0;
+}
+
+int model_load(struct wko_session *s, const uint8_t *file, size_t len)
+{
+    int16_t table[WKO_LEVELS];
+    if (!ref_read_table(file, len, table))
+        return 16;
+    memcpy(s->held, table, sizeof s->held);
     return 0;
 }
 

@@ -17,12 +17,13 @@
 #include <stddef.h>
 #include <stdint.h>
 
-#define WKO_LIBRARY_VERSION "2.0.1"
+#define WKO_LIBRARY_VERSION "3.0.0"
 #define WKO_MAX_N 16     /* symbols of the longest window */
 #define WKO_FRAME_LEN 40 /* bytes of a frame, and of its answer */
 #define WKO_OPEN 255     /* an open place of a pattern */
+#define WKO_LEVELS 16    /* levels of a table */
 
-/* Why a call, a frame or a sheet is refused; wko_refusal_text has each in words. */
+/* Why a call, a frame, a sheet or a level file is refused; wko_refusal_text has each in words. */
 enum wko_refusal {
     WKO_SHORT_BUFFER = 1,
     WKO_FRAME_LENGTH = 2,
@@ -38,7 +39,8 @@ enum wko_refusal {
     WKO_ROUND_FINISHED = 12,
     WKO_NO_SUCH_PLACE = 13,
     WKO_SHEET_MALFORMED = 14,
-    WKO_NO_FILLING = 15
+    WKO_NO_FILLING = 15,
+    WKO_LEVEL_FILE = 16
 };
 
 /* A refusal in words; 0 is none. */
@@ -61,6 +63,7 @@ static inline const char *wko_refusal_text(uint32_t number)
         "the place is not below a(n)",
         "the sheet is malformed",
         "no weak order of n agrees with the pattern",
+        "the level file is not as described",
     };
     return number < sizeof texts / sizeof texts[0] ? texts[number] : "no refusal has this number";
 }
@@ -125,18 +128,23 @@ uint32_t wko_fill(uint64_t n, const uint8_t *pattern, size_t pattern_len, uint8_
  *
  * A session goes in by value and comes back by value; the caller keeps it where it likes. Any values of the fields may be handed in:
  * a session whose n, rule, window or level setting a begin frame would be refused for, or with more than a(n) steps done, counts as
- * not begun. Sessions are changed by frames alone; the fields are there to be kept and looked at. Keep them field by field: the bytes
- * between the fields are not defined. Keep a checksum beside them, since a session with a flipped bit can be another good session.
+ * not begun. Sessions are changed by frames and level files alone; the fields are there to be kept and looked at. Keep them field by field:
+ * the bytes between the fields are not defined. Keep a checksum beside them, since a session with a flipped bit can be another good session.
  * Keep the session before the answer is sent: a device that answers first and then loses power comes back one step behind its host.
  *
- * The level of a symbol is the multiple of 25 nearest to top - (symbol - 1) * spacing under rule 1, and to top - symbol * spacing under
- * rules 2 and 3: the smallest symbol has the highest level, and different symbols have different levels. -13 rounds to -25, -12 and 12 to 0.
- * A setting is refused (9) unless top is -10000 to 2000, spacing is 25 to 500 and top - (n - 1) * spacing, the lowest that n symbols can
- * come to before rounding, is at least -12000.
+ * Let d be symbol - 1 under rule 1, and the symbol itself under rules 2 and 3. The level of the symbol is the multiple of 25 nearest to
+ * top - d * spacing: -13 rounds to -25, -12 and 12 to 0. The smallest symbol has the highest level, and different symbols have different
+ * levels. A setting is refused (9) unless top is -10000 to 2000, spacing is 25 to 500 and top - (n - 1) * spacing, the lowest that n
+ * symbols can come to before rounding, is at least -12000.
+ *
+ * Where top and spacing are both 0 the level is entry d of a table: 16 levels, each a multiple of 25 from -12000 to 2000 and lower than the
+ * one before. Any other table counts as none, and then the setting is refused (9). A session holds the table that was loaded last. A begin
+ * frame with top and spacing 0 takes a copy of it, and that round goes by its copy, whatever is loaded later.
  */
 struct wko_setting {
-    int16_t top;      /* the level of the smallest symbol before rounding, in hundredths of a dBm */
-    uint16_t spacing; /* how much lower the level of the next symbol is before rounding, in hundredths of a dB */
+    int16_t top;               /* the level of the smallest symbol before rounding, in hundredths of a dBm */
+    uint16_t spacing;          /* how much lower the level of the next symbol is before rounding, in hundredths of a dB */
+    int16_t table[WKO_LEVELS]; /* the round's copy of a table, in hundredths of a dBm, if top and spacing are 0; frames do not carry it */
 };
 
 struct wko_session {
@@ -146,6 +154,7 @@ struct wko_session {
     struct wko_setting setting;
     uint8_t window[WKO_MAX_N]; /* the window after the last step, zeros behind its n symbols */
     uint64_t done;             /* steps done since the begin frame */
+    int16_t held[WKO_LEVELS];  /* the table that was loaded last; zeros: none was */
 };
 
 struct wko_exchanged {
@@ -153,8 +162,22 @@ struct wko_exchanged {
     uint32_t number;            /* 0, or the number of the refusal, 1 to 12 */
 };
 
-/* A session that has not begun. */
+struct wko_loaded {
+    struct wko_session session; /* the session with the table; unchanged where the file is refused */
+    uint32_t number;            /* 0, or 16 */
+};
+
+/* A session that has not begun, and holds no table. */
 struct wko_session wko_fresh(void);
+
+/*
+ * Loads a level file of at most 512 bytes: the line "d level", then sixteen lines with a number and a level each, "0 2000" to
+ * "15 -12000" say, for d = 0 to 15 in order. Decimals without leading zeros, a minus before a level below zero, one space, and a line
+ * feed at the end of every line. The levels are as for a table above.
+ * The table replaces the one that the session holds, and nothing else changes: a round that has begun goes on as it was. Any other
+ * file is refused with 16, and the session stays as it was.
+ */
+struct wko_loaded wko_load_levels(struct wko_session session, const uint8_t *file, size_t file_len);
 
 /*
  * Handles one frame of any length and writes its answer to the first 40 bytes of the buffer; bytes past 40 are never touched.
@@ -194,11 +217,13 @@ struct wko_exchanged wko_exchange(struct wko_session session, const uint8_t *fra
 #else
 #define WKO_LAYOUT(holds) extern const char wko_layout[(holds) ? 1 : -1]
 #endif
-WKO_LAYOUT(sizeof(struct wko_setting) == 4 && offsetof(struct wko_setting, top) == 0 && offsetof(struct wko_setting, spacing) == 2);
-WKO_LAYOUT(sizeof(struct wko_session) == 48 && offsetof(struct wko_session, begun) == 0 && offsetof(struct wko_session, n) == 8);
+WKO_LAYOUT(sizeof(struct wko_setting) == 36 && offsetof(struct wko_setting, top) == 0 && offsetof(struct wko_setting, spacing) == 2);
+WKO_LAYOUT(offsetof(struct wko_setting, table) == 4);
+WKO_LAYOUT(sizeof(struct wko_session) == 112 && offsetof(struct wko_session, begun) == 0 && offsetof(struct wko_session, n) == 8);
 WKO_LAYOUT(offsetof(struct wko_session, rule) == 16 && offsetof(struct wko_session, setting) == 18);
-WKO_LAYOUT(offsetof(struct wko_session, window) == 22 && offsetof(struct wko_session, done) == 40);
-WKO_LAYOUT(sizeof(struct wko_exchanged) == 56 && offsetof(struct wko_exchanged, session) == 0 && offsetof(struct wko_exchanged, number) == 48);
+WKO_LAYOUT(offsetof(struct wko_session, window) == 54 && offsetof(struct wko_session, done) == 72 && offsetof(struct wko_session, held) == 80);
+WKO_LAYOUT(sizeof(struct wko_exchanged) == 120 && offsetof(struct wko_exchanged, session) == 0 && offsetof(struct wko_exchanged, number) == 112);
+WKO_LAYOUT(sizeof(struct wko_loaded) == 120 && offsetof(struct wko_loaded, session) == 0 && offsetof(struct wko_loaded, number) == 112);
 #undef WKO_LAYOUT
 #endif
 

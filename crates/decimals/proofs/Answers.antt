@@ -14,8 +14,8 @@ use borrow.Author.Tests.{lt-ltb, lt-leb, le-leb}
 use Rattle.weak_orders.specs.Window.{padded}
 use Rattle.weak_orders.proofs.Tests.{by-test}
 use Rattle.decimals.specs.Text.{decimal}
-use Rattle.decimals.specs.Reading.{Found, found, missing, Reader, further, next, both, startsWith, closed, ended, run, value}
-use Rattle.decimals.specs.Reading.{wellWritten, number, negative, positive, signedNumber, numbers}
+use Rattle.decimals.specs.Reading.{Found, found, missing, Reader, further, next, both, beginsWith, behind, startsWith, closed}
+use Rattle.decimals.specs.Reading.{ended, run, value, wellWritten, number, negative, positive, signedNumber, numbers}
 use Rattle.decimals.specs.Held.{decimalOf, signedOf, decimalsOf}
 use Rattle.decimals.specs.declared.Decimals.{Decimals}
 use Rattle.decimals.specs.declared.Decimal.the-variants.{Number, NoNumber}
@@ -126,6 +126,17 @@ module _ {A B : Type 0} (p : Reader A) (q : Reader B) (s : List ℕ) where
     pub both-found : {y : B} {b : ℕ} → q (drop a s) ≡ found y b → both p q s ≡ found (x, y) (a + b)
     unfolding both next further
     both-found e′ = rw (e, e′)
+
+-- ---- one thing behind a text
+
+module _ {A B : Type 0} (t : List ℕ) (f : A → B) (p : Reader A) (s : List ℕ) where
+  pub behind-other : beginsWith t s ≡ false → behind t f p s ≡ missing
+  unfolding behind
+  behind-other e = rw e
+
+  pub behind-here : beginsWith t s ≡ true → behind t f p s ≡ further (length t) f (p (drop (length t) s))
+  unfolding behind
+  behind-here e = rw e
 
 -- ---- a field, ended by a byte
 

@@ -1,16 +1,34 @@
 -- Readers at an index of a slice: what they see there, one byte at a time. Assumes nothing.
 use mathlib.Core.Bool.{true, false}
 use mathlib.Core.List.{List, []}
-use mathlib.Core.Path.{_≡_}
+use mathlib.Core.Path.{_≡_, ap}
 use Prim.Native.Nat.{ℕ, zero, suc, _+_, _-_, _*_, _^_, _≤_, _<_}
 use native.Mathlib.Nat.{pow-le-pow-right}
 use native.Mathlib.Numerals.{add-one}
 use native.Mathlib.Omega.{arith}
 use lib.Dec.{eqb}
-use lib.ListN.{length, getD, take, drop, length-drop, drop-of-length-le}
+use lib.ListN.{length, getD, take, drop, length-take, length-drop, drop-of-length-le}
 use lib.Seq.{drop-cons, take-suc, take-all, length-take-le}
-use Rattle.decimals.specs.Reading.{startsWith, isDigit, run, Digits, none, more, value}
+use Rattle.weak_orders.specs.Says.{Says}
+use Rattle.weak_orders.proofs.Tests.{says-no}
+use Rattle.frames.proofs.ByteTests.{says-same-bytes}
+use Rattle.decimals.specs.Reading.{beginsWith, startsWith, isDigit, run, Digits, none, more, value}
 use Rattle.decimals.proofs.Digits.{value-append, value-below}
+
+-- ---- a text at the start
+
+module _ (t s : List ℕ) where
+  pub says-begins : Says (beginsWith t s) (take (length t) s ≡ t)
+  unfolding beginsWith
+  says-begins = says-same-bytes (take (length t) s) t
+
+  pub begins-long : beginsWith t s ≡ true → length t ≤ length s
+  begins-long e = omega (arith, ap length (says-begins .to e), length-take (length t) s)
+
+  pub begins-short : length s < length t → beginsWith t s ≡ false
+  begins-short h = says-no says-begins (λ e. omega (arith, ap length e, length-take (length t) s))
+
+-- ---- a byte at an index
 
 pub starts-past : (b : ℕ) (s : List ℕ) (at : ℕ) → length s ≤ at → startsWith b (drop at s) ≡ false
 unfolding startsWith

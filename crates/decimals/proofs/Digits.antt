@@ -1,10 +1,11 @@
 -- Decimals: what the writer writes, the reader's value gives back, and the other way round. Assumes nothing.
 use mathlib.Core.Bool.{false}
 use mathlib.Core.List.{List, [], _∷_, _++_, append-assoc, append-nil}
-use mathlib.Core.Path.{_≡_, refl, sym, subst, _∙_}
+use mathlib.Core.Path.{_≡_, refl, sym, subst, ap, _∙_}
 use Prim.Native.Nat.{ℕ, zero, suc, _+_, _-_, _*_, _/_, _%_, _≤_, _<_, _^_}
 use native.Mathlib.Nat.{mod-lt, div-add-mod', mul-add-div-right, mul-add-mod-self-right, div-eq-of-lt, mod-eq-of-lt, mul-le-mul-right}
 use native.Mathlib.Nat.{mul-assoc, pow-succ'}
+use native.Mathlib.Decide.{decLt}
 use native.Mathlib.Omega.{arith}
 use lib.Dec.{ltb}
 use lib.ListN.{length, take, length-append}
@@ -63,6 +64,19 @@ pub decimal-some : (n : ℕ) → 1 ≤ length (decimal n)
 decimal-some = by-tens (λ n. 1 ≤ length (decimal n))
     (λ n l. rw (decimal-small n l) (omega arith))
     (λ v d h l i. rw (decimal-behind v d h l) (omega (arith, length-append (decimal v) ((48 + d) ∷ []))))
+
+pub decimal-longer : (v : ℕ) → 10 ≤ v → length (decimal v) ≡ length (decimal (v / 10)) + 1
+decimal-longer v h = rw (decimal-more v h) (length-append (decimal (v / 10)) ((48 + v % 10) ∷ []))
+
+-- a number below ten to the k + 1 has at most k + 1 digits
+pub decimal-width : (k n : ℕ) → n < 10 ^ suc k → length (decimal n) ≤ suc k
+decimal-width zero n h = omega (arith, ap length (decimal-small n h))
+decimal-width (suc k) n h = elim (decLt n 10) [
+  | yes l ↦ omega (arith, ap length (decimal-small n l))
+  | no l ↦
+      let less : n / 10 < 10 ^ suc k = omega (arith, div-add-mod' n 10, rw pow-succ' at h) in
+      omega (arith, decimal-longer n (omega arith), decimal-width k (n / 10) less)
+]
 
 -- ---- lists of digits
 

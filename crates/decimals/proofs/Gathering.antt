@@ -1,4 +1,4 @@
--- The loop over decimals joined by commas: those gathered in an array, and the rest of the text. Assumes nothing.
+-- Things gathered in an array, and the rest of the text; and the loop over decimals joined by commas. Assumes nothing.
 use mathlib.Core.Bool.{true, false}
 use mathlib.Core.List.{List, [], _∷_, _++_, append-assoc}
 use mathlib.Core.Path.{_≡_, refl, sym, ap, _∙_}
@@ -13,21 +13,22 @@ use Rattle.decimals.specs.Reading.{Found, found, missing, further, start
 use Rattle.decimals.specs.Held.{decimalsOf}
 use Rattle.decimals.proofs.Answers.{starts-within}
 
--- what is found k bytes further on, with the numbers vs before it
-unfoldable pub after : List ℕ → ℕ → Found (List ℕ) → Found (List ℕ)
+-- what is found k bytes further on, with vs before it
+unfoldable pub after : {A : Type 0} → List A → ℕ → Found (List A) → Found (List A)
 after vs k (found l m) = found (vs ++ l) (k + m)
 after vs k missing = missing
 
-after-none : (f : Found (List ℕ)) → after [] 0 f ≡ f
-unfolding after
-after-none (found l m) = ap (found l) (omega arith)
-after-none missing = refl
+module _ {A : Type 0} where
+  pub after-none : (f : Found (List A)) → after [] 0 f ≡ f
+  unfolding after
+  after-none (found l m) = ap (found l) (omega arith)
+  after-none missing = refl
 
-after-more : (vs : List ℕ) (at v k : ℕ) (f : Found (List ℕ)) →
-    after vs at (further (suc k) (λ l. v ∷ l) f) ≡ after (vs ++ (v ∷ [])) (at + k + 1) f
-unfolding after further
-after-more vs at v k (found l m) = let e : at + (suc k + m) ≡ at + k + 1 + m = omega arith in rw (append-assoc, e)
-after-more vs at v k missing = refl
+  pub after-more : (vs : List A) (at : ℕ) (v : A) (k : ℕ) (f : Found (List A)) →
+      after vs at (further k (λ l. v ∷ l) f) ≡ after (vs ++ (v ∷ [])) (at + k) f
+  unfolding after further
+  after-more vs at v k (found l m) = let e : at + (k + m) ≡ at + k + m = omega arith in rw (append-assoc, e)
+  after-more vs at v k missing = refl
 
 -- so many numbers are gathered, and the text is read up to an index
 pub record Gathered (s values : List ℕ) (count at : ℕ) : Type 0 where
@@ -82,7 +83,7 @@ module _ (s values : List ℕ) (count at : ℕ) (g : Gathered s values count at)
     unfolding commaThen
     gathered-on c =
         let here : startsWith 44 (drop k (drop at s)) ≡ true = rw drop-drop c in
-        let on = rw (e, here) at next ∙ after-more (take count values) at v k (numbers (15 - count) (drop (suc k) (drop at s))) in
+        let on = rw (e, here) at next ∙ after-more (take count values) at v (suc k) (numbers (15 - count) (drop (suc k) (drop at s))) in
         let left : 15 - count ≡ 16 - (count + 1) = omega arith in
         let far : at + suc k ≡ at + k + 1 = omega arith in
         record {

@@ -1,5 +1,5 @@
 pub mod Digits
-pub mod Readers
 pub mod Cursors
+pub mod Readers
 pub mod Answers
 pub mod Gathering

@@ -9,20 +9,19 @@ use native.Mathlib.Numerals.{add-one}
 use native.Mathlib.Omega.{arith}
 use lib.Dec.{eqb}
 use lib.IntN.{ℤ, pos, negsuc, natAbs}
-use lib.ListN.{length, take, drop, length-append, take-append-drop}
+use lib.ListN.{length, take, drop, length-append, length-drop, take-append-drop}
 use lib.Seq.{take-at, drop-at, drop-drop, length-take-le}
 use borrow.Author.Tests.{eq-eqb, ne-eqb, eqb-true}
 use Rattle.weak_orders.specs.Says.{Says}
 use Rattle.weak_orders.proofs.Tests.{_∈_, here, there, nowhere, split-mem, by-test, says-and, says-lt, says-not, says-itself}
 use Rattle.weak_orders.proofs.Tests.{says-le, false→not-true}
-use Rattle.frames.specs.Fields.{sameBytes}
-use Rattle.frames.proofs.ByteTests.{says-same-bytes}
 use Rattle.decimals.specs.Text.{decimal, signed, commaed, joined}
-use Rattle.decimals.specs.Reading.{Found, found, missing, Reader, further, next, both, behind, startsWith, closed, ended, isDigit}
+use Rattle.decimals.specs.Reading.{Found, found, missing, Reader, further, next, both, beginsWith, behind, startsWith, closed, ended, isDigit}
 use Rattle.decimals.specs.Reading.{run, Digits, none, more, value, wellWritten, number, positive, negative, signedNumber, commaThen}
 use Rattle.decimals.specs.Reading.{numbers}
 use Rattle.decimals.proofs.Digits.{decimal-small, decimal-some, decimal-digits, decimal-value, decimal-head}
 use Rattle.decimals.proofs.Digits.{digits-decimal, run-through, run-digits, run-length}
+use Rattle.decimals.proofs.Cursors.{says-begins}
 
 -- the first k bytes of s are t
 pub record Takes (t s : List ℕ) (k : ℕ) : Type 0 where
@@ -37,13 +36,18 @@ pub record Reads {A : Type 0} (p : Reader A) (w : A → List ℕ) (Ok : A → Ty
 pub takes-within : {t s : List ℕ} {k : ℕ} → Takes t s k → k ≤ length s
 takes-within {t} {s} {k} h = omega (arith, ap length (h .front), length-append t (drop k s), h .size)
 
+-- what is found behind an index ends within the text
+pub further-within : {A : Type 0} {p : Reader A} {w : A → List ℕ} {Ok : A → Type 0} {Stop : List ℕ → Type 0} → Reads p w Ok Stop →
+    (s : List ℕ) (at : ℕ) {x : A} {k : ℕ} → p (drop at s) ≡ found x k → at ≤ length s → at + k ≤ length s
+further-within h s at {x} {k} e l = omega (arith, takes-within (h .sound (drop at s) x k e .0), length-drop at s)
+
 pub takes-then : {t u s : List ℕ} {k m : ℕ} → Takes t s k → Takes u (drop k s) m → Takes (t ++ u) s (k + m)
 takes-then {t} {u} {s} {k} {m} h g = record {
   front = h .front ∙ ap (λ r. t ++ r) (g .front) ∙ rw (append-assoc, ← drop-drop);
   size = omega (arith, length-append t u, h .size, g .size);
 }
 
-not-found : {A B : Type 0} (x : A) (k : ℕ) → missing ≡ found x k → B
+pub not-found : {A B : Type 0} (x : A) (k : ℕ) → missing ≡ found x k → B
 not-found x k e = absurd (let z : _≡_ {A = ℕ} 0 1 = cc in omega arith)
 
 pub starts : (b : ℕ) (s : List ℕ) → startsWith b s ≡ true → s ≡ b ∷ drop 1 s
@@ -248,6 +252,18 @@ module _ {A : Type 0} {p : Reader A} {w : A → List ℕ} {Ok : A → Type 0} {S
   pub reads-ended : ((r : List ℕ) → Stop (b ∷ r)) → Reads (ended p b) (λ x. w x ++ (b ∷ [])) Ok (λ r. Unit {0})
   reads-ended stop = record { sound = ended-sound; complete = ended-complete stop }
 
+-- a number, and a byte that is no digit and so ends it
+module _ (b : ℕ) (no-digit : isDigit b ≡ false) where
+  over : (r : List ℕ) → run (b ∷ r) ≡ 0
+  unfolding run
+  over r = rw no-digit
+
+  pub reads-number-until : Reads (ended number b) (λ x. decimal x ++ (b ∷ [])) (λ x. length (decimal x) ≤ 6) (λ r. Unit {0})
+  reads-number-until = reads-ended b reads-number over
+
+  pub reads-signed-until : Reads (ended signedNumber b) (λ z. signed z ++ (b ∷ [])) (λ z. length (decimal (natAbs z)) ≤ 6) (λ r. Unit {0})
+  reads-signed-until = reads-ended b reads-signed over
+
 -- p, and then q
 module _ {A B : Type 0} {p : Reader A} {w : A → List ℕ} {Ok : A → Type 0} {q : Reader B} {v : B → List ℕ} {Ok′ : B → Type 0}
     {Stop : List ℕ → Type 0} (h : Reads p w Ok (λ r. Unit {0})) (g : Reads q v Ok′ Stop) where
@@ -282,8 +298,8 @@ module _ {A B : Type 0} {p : Reader A} {w : A → List ℕ} {Ok : A → Type 0} 
     (back : (y : B) → f (g y) ≡ y) (forth : (x : A) → g (f x) ≡ x) (h : Reads p w Ok Stop) where
   behind-sound : (s : List ℕ) (y : B) (k : ℕ) → behind t f p s ≡ found y k → Takes (t ++ w (g y)) s k × Ok (g y)
   unfolding behind further
-  behind-sound s y k e = by-test (sameBytes (take (length t) s) t)
-      (λ c. go (p (drop (length t) s)) refl (front (says-same-bytes _ t .to c)) (rw c at e))
+  behind-sound s y k e = by-test (beginsWith t s)
+      (λ c. go (p (drop (length t) s)) refl (front (says-begins t s .to c)) (rw c at e))
       (λ c. not-found y k (rw c at e))
     where
       front : take (length t) s ≡ t → Takes t s (length t)
@@ -301,8 +317,8 @@ module _ {A B : Type 0} {p : Reader A} {w : A → List ℕ} {Ok : A → Type 0} 
   behind-complete : (y : B) (r : List ℕ) → Ok (g y) → Stop r → behind t f p ((t ++ w (g y)) ++ r) ≡ found y (length (t ++ w (g y)))
   unfolding behind further
   behind-complete y r o stop =
-      let c : sameBytes t t ≡ true = says-same-bytes t t .of refl in
-      rw (append-assoc, take-at t (w (g y) ++ r) (length t) refl, drop-at t (w (g y) ++ r) (length t) refl, c, h .complete (g y) r o stop, back y, length-append)
+      let c : beginsWith t (t ++ (w (g y) ++ r)) ≡ true = says-begins t _ .of (take-at t (w (g y) ++ r) (length t) refl) in
+      rw (append-assoc, c, drop-at t (w (g y) ++ r) (length t) refl, h .complete (g y) r o stop, back y, length-append)
 
   pub reads-behind : Reads (behind t f p) (λ y. t ++ w (g y)) (λ y. Ok (g y)) Stop
   reads-behind = record { sound = behind-sound; complete = behind-complete }

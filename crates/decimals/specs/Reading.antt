@@ -29,9 +29,13 @@ next missing q s = missing
 unfoldable pub both : {A B : Type 0} → Reader A → Reader B → Reader (A × B)
 both p q s = next (p s) q s
 
+-- the text s begins with the text t
+unfoldable pub beginsWith : List ℕ → List ℕ → Bool
+beginsWith t s = sameBytes (take (length t) s) t
+
 -- the text t, and one thing right after it, as another value
 unfoldable pub behind : {A B : Type 0} → List ℕ → (A → B) → Reader A → Reader B
-behind t f p s = cond (sameBytes (take (length t) s) t) (further (length t) f (p (drop (length t) s))) missing
+behind t f p s = cond (beginsWith t s) (further (length t) f (p (drop (length t) s))) missing
 
 -- the text starts with the byte b
 unfoldable pub startsWith : ℕ → List ℕ → Bool

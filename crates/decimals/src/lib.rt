@@ -1,11 +1,11 @@
 // Readers of decimals, of lists of them and of fields (document 01, "The printed round"). Each looks at the start of a slice, and says how
-// many bytes it took. They are the only ones in the project; a line is read in sheets.
+// many bytes it took. They are the only ones in the project; lines are read in sheets and in level_files.
 ghost use mathlib.Core.Path.{_≡_};
 ghost use Prim.Native.Nat.{_-_, _≤_, _<_};
 ghost use lib.IntN.{pos, negsuc};
 ghost use lib.ListN.{length, drop};
-ghost use Rattle.decimals.specs.Reading.{missing, startsWith, isDigit, run, Digits, value, ended, number, negative, signedNumber};
-ghost use Rattle.decimals.specs.Reading.{numbers};
+ghost use Rattle.decimals.specs.Reading.{missing, beginsWith, startsWith, isDigit, run, Digits, value, ended, number, negative};
+ghost use Rattle.decimals.specs.Reading.{signedNumber, numbers};
 ghost use Rattle.decimals.specs.Held.{decimalOf, signedOf, decimalsOf};
 
 // A decimal, and how many bytes it takes.
@@ -26,6 +26,16 @@ pub struct Decimals {
     pub values: [u32; 16],
     pub count: usize,
     pub len: usize,
+}
+
+// The text begins with another one.
+pub fn begins_with(s: &[u8], t: &[u8]) -> bool
+    ensures { λ r. ⌜ r ≡ beginsWith (now (t .entry)) (now (s .entry)) ⌝ }
+{
+    if s.len() < t.len() {
+        return false;
+    }
+    check::same(&s[..t.len()], t)
 }
 
 // The byte at an index is b.

@@ -3,7 +3,7 @@ use mathlib.Core.Bool.{Bool, true, false, cond, not, _&&_}
 use mathlib.Core.List.{List}
 use mathlib.Core.Logic.{⊎-elim}
 use mathlib.Core.Option.{Option, none, some}
-use mathlib.Core.Path.{_≡_, refl}
+use mathlib.Core.Path.{_≡_, refl, sym, _∙_}
 use Prim.Native.Nat.{ℕ}
 use lib.Dec.{leb, ltb, eqb}
 use lib.ListN.{length}
@@ -13,7 +13,8 @@ use Rattle.refusals.specs.declared.Cause.the-variants.{NotWeakOrder, LevelSetti
 use Rattle.refusals.specs.declared.Verdict.{Verdict}
 use Rattle.refusals.specs.declared.Verdict.the-variants.{Refused}
 use Rattle.successors.specs.Rules.{inForm, isRule}
-use Rattle.levels.specs.Level.{settingOf, topOk, spacingOk, settingOk}
+use Rattle.levels.specs.Level.{settingOf, topOk, spacingOk, evenOk, settingOk}
+use Rattle.levels.proofs.Levels.{no-table}
 use Rattle.sheets.specs.Sheet.{RawSheet, longest, hasTitle, parse}
 use Rattle.sheets.specs.Judgement.{judged, judgedSheet, judgedText}
 use Rattle.faults.specs.Faults.{hasByte, endsLine, malformed, startFault, settingFault, sheetFault, textFault, faultOf}
@@ -75,11 +76,11 @@ module _ (s : List ℕ) (x : RawSheet) (q : parse s ≡ some x) where
 
   setting-explains : settingOk (x .n) (settingOf (x .top) (x .spacing)) ≡ false →
       Explains s (Refused LevelSetting) (settingFault (x .top) (x .spacing))
-  unfolding settingOk
+  unfolding evenOk
   setting-explains e = by-test (topOk (x .top))
       (λ t. by-test (spacingOk (x .spacing))
       (λ u.
-      let low : TooLow x = record { top = t; spacing = u; level = rw (t, u) at e } in
+      let low : TooLow x = record { top = t; spacing = u; level = rw (t, u) at (sym (no-table (x .n) (x .top) (x .spacing)) ∙ e) } in
       rw (t, u) (refl, (x, q, low)))
       (λ u. rw (t, u) (refl, tt)))
       (λ t. rw t (refl, tt))

@@ -6,21 +6,22 @@ use Prim.Native.Nat.{ℕ, suc, _+_, _-_, _≤_, _<_}
 use native.Mathlib.Numerals.{add-one}
 use native.Mathlib.Omega.{arith}
 use lib.Dec.{eqb}
-use lib.ListN.{length, drop, drop-of-length-le}
+use lib.ListN.{length, drop}
 use lib.Seq.{drop-cons}
 use Rattle.weak_orders.specs.Window.{all}
 use Rattle.weak_orders.specs.Says.{Says}
+use Rattle.weak_orders.proofs.Lists.{all-from, all-past}
 use Rattle.weak_orders.proofs.Tests.{says-as, says-and, says-eq}
 use Rattle.frames.specs.Fields.{byte, part, zeros, sameBytes}
 
 -- the bytes from i on are zero just if the first is, and those behind it
 pub zeros-drop : (f : List ℕ) (i : ℕ) → i < length f → zeros (drop i f) ≡ (eqb 0 (byte f i) && zeros (drop (i + 1) f))
-unfolding zeros all
-zeros-drop f i h = rw (drop-cons f i 0 h, add-one i)
+unfolding zeros
+zeros-drop f i h = all-from (eqb 0) 0 f i h
 
 pub zeros-none : (f : List ℕ) (i : ℕ) → length f ≤ i → zeros (drop i f) ≡ true
-unfolding zeros all
-zeros-none f i h = rw (drop-of-length-le f h)
+unfolding zeros
+zeros-none f i h = all-past (eqb 0) f i h
 
 -- the bytes from i up to `end` are zero just if the first is, and those behind it
 pub zeros-next : (f : List ℕ) (i end : ℕ) → i < end → end ≤ length f →

@@ -1,9 +1,12 @@
--- The fields of a question (document 01, "Frames").
+-- The fields of a question (document 01, "Frames"; document 02, Paper 4).
 use mathlib.Core.Bool.{Bool, _&&_}
 use mathlib.Core.List.{List, [], _∷_}
 use Prim.Native.Char.{code}
 use Prim.Native.Nat.{ℕ}
+use lib.IntN.{ℤ}
 use Rattle.levels.specs.declared.Setting.{Setting}
+use Rattle.levels.specs.Table.{noTable}
+use Rattle.levels.specs.Level.{onTable}
 use Rattle.frames.specs.Fields.{ascii, byte, part, zeros, sameBytes, unsigned16, unsigned64, signed16}
 
 -- 0–3: the letters WKO1
@@ -40,9 +43,14 @@ ruleIn f = byte f 6
 unfoldable pub numberIn : List ℕ → ℕ
 numberIn f = unsigned64 f 8
 
--- 16–17: top, signed; 18–19: spacing
-unfoldable pub settingIn : List ℕ → Setting
-settingIn f = record { top = signed16 (unsigned16 f 16); spacing = unsigned16 f 18 }
+-- 16–17: top, signed; 18–19: spacing; and a table, which no frame carries
+unfoldable pub settingIn : List ℕ → List ℤ → Setting
+settingIn f table = record { top = signed16 (unsigned16 f 16); spacing = unsigned16 f 18; table = table }
+
+-- a top and a spacing of 0 ask for a table
+unfoldable pub takesTable : List ℕ → Bool
+unfolding settingIn onTable
+takesTable f = onTable (settingIn f noTable)
 
 -- 24–39: the sixteen bytes of the start window
 unfoldable pub windowIn : List ℕ → List ℕ

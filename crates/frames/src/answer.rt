@@ -8,7 +8,7 @@ ghost use Rattle.refusals.specs.Numbers.{causeNumber};
 use crate::field;
 use refusals::Cause;
 
-// What a frame is answered. A begin or a query frame has symbol and level 0.
+// What a frame is answered, and a level file. Only a step has a symbol and a level; the others have 0.
 pub enum Reply {
     Accepted { symbol: u8, level: i32 },
     Refused(Cause),

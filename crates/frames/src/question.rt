@@ -2,7 +2,7 @@
 ghost use mathlib.Core.Path.{_≡_};
 ghost use Prim.Native.Nat.{_+_, _≤_, _<_};
 ghost use Rattle.frames.specs.Fields.{part, zeros, unsigned16, unsigned64};
-ghost use Rattle.frames.specs.Question.{isQuestion, numberIn, settingIn, windowIn, reservedB, reservedS, reservedQ};
+ghost use Rattle.frames.specs.Question.{isQuestion, numberIn, settingIn, takesTable, windowIn, reservedB, reservedS, reservedQ};
 use crate::field;
 use levels::Setting;
 
@@ -74,20 +74,28 @@ fn u64_at(f: [u8; 40], at: usize) -> u64
                 + 256 * (wide64(f[at + 2]) + 256 * (wide64(f[at + 3]) + 256 * high)))
 }
 
-// Bytes 8–15, 16–19 and 24–39.
+// Bytes 8–15, 16–19 with a table, and 24–39.
 pub fn number_in(f: [u8; 40]) -> u64
     ensures { λ r. ⌜ r ≡ numberIn f ⌝ }
 {
     u64_at(f, 8)
 }
 
-pub fn setting_in(f: [u8; 40]) -> Setting
-    ensures { λ r. ⌜ r ≡ settingIn f ⌝ }
+pub fn setting_in(f: [u8; 40], table: [i16; 16]) -> Setting
+    ensures { λ r. ⌜ r ≡ settingIn f table ⌝ }
 {
     Setting {
         top: field::signed_of(u16_at(f, 16)),
         spacing: u16_at(f, 18),
+        table: table,
     }
+}
+
+// The frame asks for a table.
+pub fn takes_table(f: [u8; 40]) -> bool
+    ensures { λ r. ⌜ r ≡ takesTable f ⌝ }
+{
+    levels::on_table(setting_in(f, [0i16; 16]))
 }
 
 pub fn window_in(f: [u8; 40]) -> [u8; 16]

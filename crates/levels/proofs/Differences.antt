@@ -97,7 +97,7 @@ says-lt-difference p q p′ q′ = elim (decLt p q) [
   ]
 ]
 
-le-not-lt : (x y : ℤ) → leZ x y ≡ not (ltZ y x)
+pub le-not-lt : (x y : ℤ) → leZ x y ≡ not (ltZ y x)
 le-not-lt (pos a) (pos b) = same-test (says-le a b) (says-as (says-not (says-lt b a)) (λ h. omega arith) (λ h. λ l. omega arith))
 le-not-lt (pos a) (negsuc b) = refl
 le-not-lt (negsuc a) (pos b) = refl

@@ -10,7 +10,8 @@ use lib.IntN.{ℤ, pos, negsuc, negℤ, natAbs, subℕ, _-ℤ_}
 use lib.Signed.{leZ, ltZ}
 use borrow.Author.Tests.{ltb-true, eqb-true, eq-eqb}
 use Rattle.levels.specs.Level.{nearest, rounded}
-use Rattle.levels.specs.Rounding.{isMultiple, Rounding}
+use Rattle.levels.specs.Table.{isMultiple}
+use Rattle.levels.specs.Rounding.{Rounding}
 use Rattle.levels.proofs.Differences.{lt-difference, ge-difference, as-difference, neg-difference, same-difference, lower-difference}
 use Rattle.levels.proofs.Differences.{subtract-difference, abs-difference, pos-abs, says-lt-difference, says-le-difference}
 

@@ -1,18 +1,24 @@
 -- How large a level can be, of any setting and any symbol, and that what passes test 9 has room in a setting. Assumes nothing.
 use mathlib.Core.Bool.{Bool, true, false, cond}
-use mathlib.Core.Path.{_≡_}
+use mathlib.Core.List.{List, [], _∷_, map, map-id}
+use mathlib.Core.Path.{_≡_, sym, ap, subst, _∙_}
 use Prim.Native.Nat.{ℕ, zero, suc, _+_, _*_, _≤_, _<_, _^_}
 use native.Mathlib.Nat.{mul-le-mul}
 use native.Mathlib.Omega.{arith}
 use lib.Dec.{ltb, eqb}
 use lib.IntN.{ℤ, pos, negsuc, negℤ, natAbs, subℕ, _-ℤ_}
+use lib.ListN.{getD}
 use lib.Signed.{mag}
+use mir.Facts.{toZ-ofZ}
 use mir.Syntax.{w16}
-use mir.Val.{Fits, SFits}
+use mir.Val.{Val, Fits, SFits, toZ, ofZ}
+use denote.Array.{each}
+use denote.Shadow.{shadow}
+use denote.Signed.{SInt}
 use borrow.Author.Tests.{leb-true}
-use Rattle.weak_orders.proofs.Tests.{by-test, says-and, says-itself, says-le}
+use Rattle.weak_orders.proofs.Tests.{by-test, same-test, says-and, says-as, says-eq, says-itself, says-le}
 use Rattle.levels.specs.declared.Setting.{Setting}
-use Rattle.levels.specs.Level.{spacings, lowered, nearest, rounded, levelOf, topOk, spacingOk}
+use Rattle.levels.specs.Level.{spacings, lowered, nearest, rounded, entry, onTable, levelAt, levelOf, topOk, spacingOk}
 use Rattle.levels.proofs.NearestMultiple.{nearest-le}
 
 -- a difference is at most as large as its parts together
@@ -59,12 +65,14 @@ unfolding spacings
 spacings-small rule symbol h = by-test (eqb rule 1) (λ e. rw e (omega arith)) (λ e. rw e h)
 
 -- so that a level has at most eight digits
-pub level-size : (rule : ℕ) (s : Setting) (symbol : ℕ) → mag (s .top) ≤ 32768 → s .spacing < 65536 → symbol < 256 →
-    mag (levelOf rule s symbol) < 100000000
-unfolding levelOf
-level-size rule s symbol t p v =
+pub level-size : (rule : ℕ) (s : Setting) (symbol : ℕ) → mag (s .top) ≤ 32768 → s .spacing < 65536 →
+    ((d : ℕ) → mag (entry (s .table) d) ≤ 32768) → symbol < 256 → mag (levelOf rule s symbol) < 100000000
+unfolding levelOf levelAt
+level-size rule s symbol t p entries v =
     let d = spacings rule symbol in
-    omega (arith, rounded-mag (lowered s d), lowered-size s d t p (spacings-small rule symbol v))
+    by-test (onTable s)
+    (λ e. rw e (omega (arith, entries d)))
+    (λ e. rw e (omega (arith, rounded-mag (lowered s d), lowered-size s d t p (spacings-small rule symbol v))))
 
 -- a top and a spacing that pass have room in 16 bits
 pub top-fits : (top : ℤ) → topOk top ≡ true → SFits w16 top
@@ -75,3 +83,23 @@ top-fits (negsuc k) e =
 pub spacing-fits : (spacing : ℕ) → spacingOk spacing ≡ true → Fits w16 spacing
 spacing-fits spacing e =
     let (_, h) = says-and (says-le 25 spacing) (says-le spacing 500) .to e in record { fits = omega arith }
+
+-- a top is 0 just if its bits are
+pub zero-bits : (z : ℤ) → SFits w16 z → eqb (ofZ w16 z) 0 ≡ eqb (natAbs z) 0
+zero-bits z f = same-test (says-eq (ofZ w16 z) 0) (says-as (says-eq (natAbs z) 0) (λ e. ap (ofZ w16) (zero z e))
+    (λ e. ap natAbs (sym (toZ-ofZ f) ∙ ap (toZ w16) e)))
+  where
+    zero : (z : ℤ) → natAbs z ≡ 0 → z ≡ pos 0
+    zero (pos n) e = ap pos e
+    zero (negsuc n) e = absurd (omega arith)
+
+-- An element of an array of i16 fits, at any index, since past the end `getD` gives 0: for `search`, which has it of unsigned elements only.
+-- For the field of a struct the array's relation stands at `map` of the identity.
+each-fits : (t : List ℤ) (us : List Val) (i : ℕ) → shadow (each ℤ (SInt w16 .own) t us) → SFits w16 (getD t i (pos 0))
+each-fits [] us i p = record { sfits = omega arith }
+each-fits (z ∷ t) [] i p = absurd p
+each-fits (z ∷ t) (u ∷ us) zero p = record { sfits = p .0 .1 }
+each-fits (z ∷ t) (u ∷ us) (suc i) p = each-fits t us i (p .1)
+
+pub entry-fits : (t : List ℤ) (us : List Val) (i : ℕ) → shadow (each ℤ (SInt w16 .own) (map (λ (v : ℤ). v) t) us) → SFits w16 (getD t i (pos 0))
+entry-fits t us i p = each-fits t us i (subst (λ (ys : List ℤ). shadow (each ℤ (SInt w16 .own) ys us)) (map-id t) p)

@@ -6,13 +6,14 @@ use Prim.Native.Nat.{ℕ, _≤_, _<_}
 use native.Mathlib.Omega.{arith}
 use lib.Dec.{eqb}
 use lib.ListN.{length}
+use Rattle.weak_orders.proofs.FormTests.{says-length}
 use Rattle.weak_orders.proofs.HeightForm.{height-below}
 use Rattle.weak_orders.proofs.RankForm.{says-rank, rank-positive, rank-le-length}
 use Rattle.weak_orders.proofs.Tests.{_∈_, by-test}
 use Rattle.successors.specs.Rules.{inForm}
 use Rattle.levels.specs.declared.Setting.{Setting}
-use Rattle.levels.specs.Level.{spacings, levelOf, settingOk}
-use Rattle.levels.proofs.Levels.{passed, level-multiple, level-range, level-falls, level-same}
+use Rattle.levels.specs.Level.{spacings, levelAt, levelOf, settingOk}
+use Rattle.levels.proofs.Levels.{level-same, ordered}
 use Rattle.levels.specs.Levels.{Levels, LevelsOk}
 
 -- the spacings below the top: fewer than there are symbols, and in the order of the symbols
@@ -32,19 +33,22 @@ module _ (rule : ℕ) (w : List ℕ) (form : inForm rule w ≡ true) where
       (λ e. rw e lt)
 
 -- of a window that has no more than n symbols
-pub levels-within : (n rule : ℕ) (s : Setting) (w : List ℕ) → settingOk n s ≡ true → length w ≤ n → inForm rule w ≡ true →
+pub levels-within : (n rule : ℕ) (s : Setting) (w : List ℕ) → n ≤ 16 → settingOk n s ≡ true → length w ≤ n → inForm rule w ≡ true →
     Levels rule s w
-levels-within n rule s w ok short form =
-    let h = passed n s ok in
-    let within : (v : ℕ) → v ∈ w → spacings rule v < n = λ v m. omega (arith, spacings-below rule w form v m) in
+unfolding levelOf levelAt
+levels-within n rule s w few ok short form =
+    let o = ordered n s few ok in
+    let d : ℕ → ℕ = spacings rule in
+    let within : (v : ℕ) → v ∈ w → d v < n = λ v m. omega (arith, spacings-below rule w form v m) in
     record {
-      low = λ v m. level-range h rule v (within v m) .0;
-      high = λ v m. level-range h rule v (within v m) .1;
-      multiple = λ v m. level-multiple rule s v;
-      falling = λ u v mu mv lt. level-falls h rule u v (spacings-order rule w form u v mu lt);
+      low = λ v m. o .low (d v) (within v m);
+      high = λ v m. o .high (d v) (within v m);
+      multiple = λ v m. o .multiple (d v) (within v m);
+      entry = λ v m t. rw t;
+      falling = λ u v mu mv lt. o .falling (d u) (d v) (spacings-order rule w form u v mu lt) (within v mv);
       same = λ u v mu mv. (
         λ e.
-            let d = level-same h rule u v e in
+            let q = level-same o (d u) (d v) (within u mu) (within v mv) e in
             let up : ¬ (u < v) = λ lt. omega (arith, spacings-order rule w form u v mu lt) in
             let down : ¬ (v < u) = λ lt. omega (arith, spacings-order rule w form v u mv lt) in
             omega arith,
@@ -53,4 +57,4 @@ levels-within n rule s w ok short form =
     }
 
 pub levels-ok : LevelsOk
-levels-ok n rule s w ok (long, form) = levels-within n rule s w ok (omega arith) form
+levels-ok n rule s w one ok (long, form) = levels-within n rule s w (says-length n .to one .1) ok (omega arith) form

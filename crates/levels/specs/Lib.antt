@@ -1,3 +1,4 @@
+pub mod Table
 pub mod Level
 pub mod Rounding
 pub mod Levels

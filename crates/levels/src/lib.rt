@@ -1,17 +1,40 @@
 // The level setting of a round, and the level of a symbol. The only crate that knows how a level is made.
 // Rests on weak_orders for test 6, and on successors for the form that a rule's windows have.
+pub mod table;
+
 ghost use mathlib.Core.Bool.{_&&_};
 ghost use mathlib.Core.Path.{_≡_};
 ghost use Prim.Native.Nat.{_<_, _^_};
 ghost use lib.Signed.{mag};
 ghost use Rattle.weak_orders.specs.Window.{isLength};
-ghost use Rattle.levels.specs.Level.{spacings, lowered, nearest, rounded, levelOf, topOk, spacingOk, settingOk};
+ghost use Rattle.levels.specs.Level.{settingOf, spacings, lowered, nearest, rounded, onTable, levelOf, topOk, spacingOk, settingOk};
 
-// A level setting, in hundredths of a dBm.
+// A level setting, in hundredths of a dBm: a top and a spacing, or the table where both are 0.
 #[repr(C)]
 pub struct Setting {
     pub top: i16,
     pub spacing: u16,
+    pub table: [i16; 16],
+}
+
+// A setting without a table.
+pub fn setting_of(top: i16, spacing: u16) -> Setting
+    ensures { λ r. ⌜ r ≡ settingOf top spacing ⌝ }
+{
+    Setting {
+        top: top,
+        spacing: spacing,
+        table: [0i16; 16],
+    }
+}
+
+// The levels are the table's.
+pub fn on_table(setting: Setting) -> bool
+    ensures { λ r. ⌜ r ≡ onTable setting ⌝ }
+{
+    let top = setting.top;
+    let spacing = setting.spacing;
+    (top == 0) & (spacing == 0)
 }
 
 // How many spacings below the top a symbol stands.
@@ -57,11 +80,16 @@ fn rounded(z: i32) -> i32
     nearest(z as u32) as i32
 }
 
-// The level of a symbol, in hundredths of a dBm: rounded once, from the exact value.
+// The level of a symbol, in hundredths of a dBm: the table's entry, or rounded once, from the exact value.
 pub fn level(rule: u8, setting: Setting, symbol: u8) -> i32
     ensures { λ r. ⌜ r ≡ levelOf rule setting symbol ⌝ }
 {
-    rounded(lowered(setting, spacings_of(rule, symbol)))
+    let table = setting.table;
+    let d = spacings_of(rule, symbol);
+    if on_table(setting) {
+        return table::entry(table, d);
+    }
+    rounded(lowered(setting, d))
 }
 
 // Test 9 on the top alone, and on the spacing alone. They are wider than in a setting, for values that are not narrowed yet.
@@ -86,6 +114,10 @@ pub fn setting_ok(n: usize, setting: Setting) -> bool
     }
     let top = setting.top;
     let spacing = setting.spacing;
+    let table = setting.table;
+    if on_table(setting) {
+        return table::table_ok(table);
+    }
     let lowest = lowered(setting, (n - 1) as u8);
     top_ok(top as i32) & (spacing_ok(spacing as u32) & (-12000 <= lowest))
 }

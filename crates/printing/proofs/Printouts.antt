@@ -10,7 +10,7 @@ use native.Mathlib.Omega.{arith}
 use lib.Dec.{leb, ltb, eqb}
 use lib.ListN.{length, take}
 use borrow.Author.Tests.{le-leb, ltb-true}
-use Rattle.weak_orders.specs.Window.{iter}
+use Rattle.weak_orders.specs.Window.{iter, isLength}
 use Rattle.weak_orders.proofs.FormTests.{says-length}
 use Rattle.weak_orders.proofs.Padded.{take-padded, length-padded}
 use Rattle.weak_orders.proofs.Tests.{_∈_, here, there, by-test, says-and, says-eq, says-itself}
@@ -204,14 +204,15 @@ all-done j (taken x e n r s l) rooms h m =
     let many : a (x .n) ≤ length rooms = rw e at m in
     rw e (all .at .done ∙ all .enough h (omega arith) ∙ sym (all .at .end))
 
--- an accepted one tours the weak orders, under a setting that passes test 9
+-- an accepted one tours the weak orders of at most sixteen symbols, under a setting that passes test 9
 in-round : (j : Judged) → Outcome j → j .verdict ≡ Accepted → let r = j .round in
-    Tour (WeakOrder (r .n) (r .rule)) (step (ruleOf (r .rule))) (a (r .n)) (take (r .n) (r .window)) × (settingOk (r .n) (r .setting) ≡ true)
+    Tour (WeakOrder (r .n) (r .rule)) (step (ruleOf (r .rule))) (a (r .n)) (take (r .n) (r .window))
+    × ((isLength (r .n) ≡ true) × (settingOk (r .n) (r .setting) ≡ true))
 unfolding roundOf
 in-round j (turned-down c e) v = absurd (let z : _≡_ {A = ℕ} 0 1 = cc (ap (λ (j : Judged). j .verdict) e) in omega arith)
 in-round j (taken x e (pos, few) r (size, form) l) v =
     let kept = take-padded (x .start) (x .n) size in
-    rw (e, kept) (universal-cycle (x .rule) r (x .n) pos (x .start) (size, form), l)
+    rw (e, kept) (universal-cycle (x .rule) r (x .n) pos (x .start) (size, form), (says-length (x .n) .of (pos, omega arith), l))
 
 pub claims : Claims
 unfolding printedText
@@ -220,5 +221,5 @@ claims = record {
   prints = λ s rooms d. ap (λ t. openingText (judgedText s .verdict) ++ t) (all-printed (judgedText s) (outcome s) rooms d);
   ends = λ s rooms h m. all-done (judgedText s) (outcome s) rooms h m;
   each = λ s v. in-round (judgedText s) (outcome s) v .0;
-  levels = λ s v k. let (tour, ok) = in-round (judgedText s) (outcome s) v in levels-ok _ _ _ _ ok (tour .kept k);
+  levels = λ s v k. let (tour, (long, ok)) = in-round (judgedText s) (outcome s) v in levels-ok _ _ _ _ long ok (tour .kept k);
 }

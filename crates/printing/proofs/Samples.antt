@@ -7,8 +7,8 @@ use Rattle.frames.specs.Fields.{sameBytes}
 use Rattle.levels.specs.Level.{levelOf, settingOk}
 use Rattle.frames.specs.Answer.{newest}
 use Rattle.decimals.specs.Text.{digits, decimal, signed, commaed, joined}
-use Rattle.decimals.specs.Reading.{further, next, both, behind, startsWith, closed, ended, run, value, wellWritten}
-use Rattle.decimals.specs.Reading.{number, negative, positive, signedNumber, commaThen, numbers}
+use Rattle.decimals.specs.Reading.{further, next, both, beginsWith, behind, startsWith, closed, ended, run, value}
+use Rattle.decimals.specs.Reading.{wellWritten, number, negative, positive, signedNumber, commaThen, numbers}
 use Rattle.sheets.specs.Sheet.{lengthAndRule, topAndSpacing, fields, sheetLines, wholly, parse}
 use Rattle.sheets.specs.Judgement.{roundOf, judged, judgedSheet, judgedText}
 use Rattle.printing.specs.Printing.{lineText, stepLine, roundLine, roundLines, openingText, stepsOf, printedText}
@@ -16,7 +16,7 @@ use Rattle.printing.specs.Sample.{Sample}
 
 pub sample : Sample
 unfolding iter padded a ruleOf inForm isRule step sameBytes levelOf settingOk newest digits decimal signed commaed joined
-    further next both behind startsWith closed ended run value wellWritten number negative positive signedNumber commaThen numbers
+    further next both beginsWith behind startsWith closed ended run value wellWritten number negative positive signedNumber commaThen numbers
     lengthAndRule topAndSpacing fields sheetLines wholly parse roundOf judged judgedSheet judgedText
     lineText stepLine roundLine roundLines openingText stepsOf printedText
 sample = refl

@@ -1,8 +1,7 @@
 -- How many bytes a line takes at most. Assumes nothing.
 use mathlib.Core.List.{List, [], _∷_, _++_}
-use mathlib.Core.Path.{_≡_, ap}
-use Prim.Native.Nat.{ℕ, zero, suc, _-_, _*_, _/_, _^_, _≤_, _<_}
-use native.Mathlib.Nat.{div-add-mod', pow-succ'}
+use mathlib.Core.Path.{_≡_}
+use Prim.Native.Nat.{ℕ, suc, _-_, _*_, _^_, _≤_, _<_}
 use native.Mathlib.Decide.{decLt}
 use native.Mathlib.Omega.{arith}
 use lib.IntN.{ℤ, pos, negsuc}
@@ -11,24 +10,13 @@ use lib.Seq.{getD-take}
 use lib.Signed.{mag}
 use Rattle.weak_orders.proofs.Tests.{_∈_, here, there}
 use Rattle.weak_orders.proofs.Lists.{mem-take, in-getD}
-use Rattle.levels.specs.Level.{levelOf}
+use Rattle.levels.specs.Level.{entry, levelOf}
 use Rattle.frames.specs.Answer.{newest}
 use Rattle.levels.proofs.Sizes.{level-size}
 use Rattle.decimals.specs.Text.{decimal, signed, commaed, joined}
 use Rattle.printing.specs.Printing.{lineText, stepLine, lastLine}
 use Rattle.printing.specs.declared.Printing.{Printing}
-use Rattle.decimals.proofs.Digits.{decimal-small}
-use Rattle.printing.proofs.Written.{decimal-longer}
-
--- a number below ten to the k + 1 has at most k + 1 digits
-pub decimal-width : (k n : ℕ) → n < 10 ^ suc k → length (decimal n) ≤ suc k
-decimal-width zero n h = omega (arith, ap length (decimal-small n h))
-decimal-width (suc k) n h = elim (decLt n 10) [
-  | yes l ↦ omega (arith, ap length (decimal-small n l))
-  | no l ↦
-      let less : n / 10 < 10 ^ suc k = omega (arith, div-add-mod' n 10, rw pow-succ' at h) in
-      omega (arith, decimal-longer n (omega arith), decimal-width k (n / 10) less)
-]
+use Rattle.decimals.proofs.Digits.{decimal-width}
 
 signed-width : (z : ℤ) → mag z < 100000000 → length (signed z) ≤ 10
 unfolding signed
@@ -83,6 +71,7 @@ pub record Held (p : Printing) : Type 0 where
   pub done : p .done < 2 ^ 64
   pub top : mag (p .setting .top) ≤ 32768
   pub spacing : p .setting .spacing < 65536
+  pub entries : (d : ℕ) → mag (entry (p .setting .table) d) ≤ 32768
   pub long : length (p .window) ≡ 16
   pub symbols : (i : ℕ) → getD (p .window) i 0 < 256
 
@@ -98,5 +87,5 @@ last-line-width p h =
     let w = take (p .n) (p .window) in
     let s = symbol-below (p .window) (p .n) (length w - 1) (h .symbols) in
     line-width (p .done) (newest w) (levelOf (p .rule) (p .setting) (newest w)) w (h .done) s
-    (level-size (p .rule) (p .setting) (newest w) (h .top) (h .spacing) s) (omega (arith, length-take (p .n) (p .window), h .long))
+    (level-size (p .rule) (p .setting) (newest w) (h .top) (h .spacing) (h .entries) s) (omega (arith, length-take (p .n) (p .window), h .long))
     (λ v m. let (i, _, e) = in-getD 0 (mem-take (p .n) (p .window) v m) in rw (← e) (h .symbols i))

@@ -8,7 +8,7 @@ use lib.ListN.{length, take, drop, set, length-append, length-drop, take-append-
 use lib.Seq.{length-take-le, set-split, take-at, drop-drop, drop-append-add}
 use Rattle.decimals.specs.Text.{decimal}
 use Rattle.printing.specs.Writing.{written, Wrote, Counts}
-use Rattle.decimals.proofs.Digits.{decimal-small, decimal-more}
+use Rattle.decimals.proofs.Digits.{decimal-small, decimal-more, decimal-longer}
 
 written-length : (out : List ℕ) (at : ℕ) (t : List ℕ) → at + length t ≤ length out → length (written out at t) ≡ length out
 unfolding written
@@ -66,9 +66,6 @@ room-rest {out} {t} {at = at} w u h =
 
 pub decimal-one : {out out′ : List ℕ} {at next : ℕ} (v : ℕ) → v < 10 → Wrote out at ((48 + v) ∷ []) next out′ → Wrote out at (decimal v) next out′
 decimal-one v h w = rw (decimal-small v h) w
-
-pub decimal-longer : (v : ℕ) → 10 ≤ v → length (decimal v) ≡ length (decimal (v / 10)) + 1
-decimal-longer v h = rw (decimal-more v h) (length-append (decimal (v / 10)) ((48 + v % 10) ∷ []))
 
 pub decimal-then : {out out′ out″ : List ℕ} {at next last : ℕ} (v : ℕ) → 10 ≤ v →
     Wrote out at (decimal (v / 10)) next out′ → Wrote out′ next ((48 + v % 10) ∷ []) last out″ →

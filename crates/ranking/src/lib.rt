@@ -18,15 +18,32 @@ use weak_orders::WindowAnswer;
 
 mod tables;
 
-// a(n), the weak orders of n; 0 past 16.
+// a(n), the weak orders of n; 0 past 16. Each entry is read by its number: so the compiler knows what is read, keeps it in read-only data and
+// builds no list on the stack.
 pub fn weak_order_count(n: usize) -> u64
     ensures { λ r. ⌜ r ≡ cond (leb n 16) (a n) 0 ⌝ }
 {
-    if 16 < n {
-        return 0;
-    }
     let counts = tables::totals();
-    counts[n]
+    match n {
+        0 => counts[0],
+        1 => counts[1],
+        2 => counts[2],
+        3 => counts[3],
+        4 => counts[4],
+        5 => counts[5],
+        6 => counts[6],
+        7 => counts[7],
+        8 => counts[8],
+        9 => counts[9],
+        10 => counts[10],
+        11 => counts[11],
+        12 => counts[12],
+        13 => counts[13],
+        14 => counts[14],
+        15 => counts[15],
+        16 => counts[16],
+        _ => 0,
+    }
 }
 
 // L(n, k), the weak orders of n with exactly k different symbols; 0 outside the table.

@@ -3,7 +3,7 @@ use Prim.Native.Nat.{ℕ, _+_}
 use Rattle.refusals.specs.declared.Cause.{Cause}
 use Rattle.refusals.specs.declared.Cause.the-variants.{ShortBuffer, FrameLength, FrameHeader, FrameKind, ReservedByte}
 use Rattle.refusals.specs.declared.Cause.the-variants.{WindowLength, RuleNumber, NotWeakOrder, LevelSetting, NotBegun}
-use Rattle.refusals.specs.declared.Cause.the-variants.{StepNumber, RoundFinished, NoSuchPlace, SheetMalformed, NoFilling}
+use Rattle.refusals.specs.declared.Cause.the-variants.{StepNumber, RoundFinished, NoSuchPlace, SheetMalformed, NoFilling, LevelFile}
 use Rattle.refusals.specs.declared.Verdict.{Verdict}
 use Rattle.refusals.specs.declared.Verdict.the-variants.{Accepted, Refused}
 
@@ -24,6 +24,8 @@ causeNumber NoSuchPlace = 13
 causeNumber SheetMalformed = 14
 -- document 02, Paper 1
 causeNumber NoFilling = 15
+-- Paper 4
+causeNumber LevelFile = 16
 
 -- "256 + number means refused"
 abbrev pub refusal : Cause → ℕ

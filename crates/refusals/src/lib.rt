@@ -1,4 +1,4 @@
-// Why a frame, a call or a sheet is turned down: document 01's table of refusals with document 02's behind it, once for all crates.
+// Why a frame, a call, a sheet or a level file is turned down: document 01's table of refusals with document 02's behind it, once for all crates.
 // Rests on nothing. What is left as it was is for each caller's contract to say.
 ghost use mathlib.Core.Path.{_≡_};
 ghost use Rattle.refusals.specs.Numbers.{causeNumber};
@@ -20,6 +20,7 @@ pub enum Cause {
     NoSuchPlace,
     SheetMalformed,
     NoFilling,
+    LevelFile,
 }
 
 // Whether a call or a sheet is accepted. A window that goes with it stands beside it, since an enum cannot hold an array.
@@ -48,5 +49,6 @@ pub fn number(cause: Cause) -> u8
         Cause::NoSuchPlace => 13,
         Cause::SheetMalformed => 14,
         Cause::NoFilling => 15,
+        Cause::LevelFile => 16,
     }
 }

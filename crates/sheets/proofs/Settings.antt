@@ -4,7 +4,8 @@ use mathlib.Core.Path.{_≡_, refl, sym, ap, _∙_}
 use Prim.Native.Nat.{ℕ}
 use lib.IntN.{ℤ}
 use Rattle.weak_orders.proofs.Tests.{by-test}
-use Rattle.levels.specs.Level.{settingOf, topOk, spacingOk, settingOk}
+use Rattle.levels.specs.Level.{settingOf, topOk, spacingOk, evenOk, settingOk}
+use Rattle.levels.proofs.Levels.{no-table}
 use Rattle.sheets.specs.declared.judge.SettingTest.{SettingTest}
 use Rattle.sheets.specs.Judgement.{settingTest, noSetting}
 
@@ -26,12 +27,12 @@ module _ (n : ℕ) (top : ℤ) (spacing : ℕ) where
   passes e = rw e
 
   pub top-out : topOk top ≡ false → settingTest n top spacing ≡ noSetting
-  unfolding settingOk
-  top-out e = not-ok (false-left (topOk top) _ e)
+  unfolding evenOk
+  top-out e = not-ok (no-table n top spacing ∙ false-left (topOk top) _ e)
 
   pub spacing-out : spacingOk spacing ≡ false → settingTest n top spacing ≡ noSetting
-  unfolding settingOk
-  spacing-out e = not-ok (false-right (topOk top) _ (false-left (spacingOk spacing) _ e))
+  unfolding evenOk
+  spacing-out e = not-ok (no-table n top spacing ∙ false-right (topOk top) _ (false-left (spacingOk spacing) _ e))
 
   -- what the answer tells
   module _ (t : SettingTest) (e : t ≡ settingTest n top spacing) where

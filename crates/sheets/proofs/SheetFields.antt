@@ -5,7 +5,7 @@ use mathlib.Core.Path.{_≡_, refl}
 use Prim.Native.Nat.{ℕ, _+_, _≤_}
 use native.Mathlib.Omega.{arith}
 use lib.IntN.{ℤ}
-use lib.ListN.{length, drop, length-drop}
+use lib.ListN.{length, drop}
 use lib.Seq.{drop-drop}
 use Rattle.weak_orders.specs.Window.{padded}
 use Rattle.decimals.specs.Reading.{Found, found, missing, Reader, further, both, ended, numbers}
@@ -14,7 +14,7 @@ use Rattle.sheets.specs.Held.{lengthAndRuleOf, topAndSpacingOf, sheetHel
 use Rattle.sheets.specs.declared.sheet.LengthAndRule.the-variants.{Read as LengthRule, Unread as NoLengthRule}
 use Rattle.sheets.specs.declared.sheet.TopAndSpacing.the-variants.{Read as TopSpacing, Unread as NoTopSpacing}
 use Rattle.decimals.proofs.Answers.{both-none, both-one, both-found}
-use Rattle.decimals.proofs.Readers.{Reads, takes-within}
+use Rattle.decimals.proofs.Readers.{takes-within, further-within}
 use Rattle.sheets.proofs.SheetTexts.{reads-length-and-rule, reads-top-and-spacing, reads-list}
 
 -- ---- from an answer to what was found
@@ -41,11 +41,6 @@ no-top-and-spacing (found (top, spacing) k) e = absurd (let z : _≡_ {A = ℕ} 
 no-top-and-spacing missing e = refl
 
 -- ---- the second line
-
--- what is found behind an index ends within the text
-further-within : {A : Type 0} {p : Reader A} {w : A → List ℕ} {Ok : A → Type 0} {Stop : List ℕ → Type 0} → Reads p w Ok Stop →
-    (s : List ℕ) (at : ℕ) {x : A} {k : ℕ} → p (drop at s) ≡ found x k → at ≤ length s → at + k ≤ length s
-further-within h s at {x} {k} e l = omega (arith, takes-within (h .sound (drop at s) x k e .0), length-drop at s)
 
 module _ (s : List ℕ) where
   abbrev rest : Reader ((ℤ × ℕ) × List ℕ)

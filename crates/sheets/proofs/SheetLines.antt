@@ -2,19 +2,18 @@
 use mathlib.Core.Bool.{true, false, false≢true}
 use mathlib.Core.List.{List}
 use mathlib.Core.Option.{none}
-use mathlib.Core.Path.{_≡_, refl, sym, ap}
+use mathlib.Core.Path.{_≡_, refl, sym}
 use Prim.Native.Nat.{ℕ, _+_, _≤_, _<_}
 use native.Mathlib.Omega.{arith}
-use lib.ListN.{length, take, drop, length-take}
+use lib.ListN.{length, drop}
 use borrow.Author.Tests.{eq-eqb, ne-eqb, le-leb, lt-leb}
-use Rattle.weak_orders.specs.Says.{Says}
-use Rattle.weak_orders.proofs.Tests.{says-no}
-use Rattle.frames.proofs.ByteTests.{says-same-bytes}
-use Rattle.decimals.specs.Reading.{Found, found, missing, further, behind}
+use Rattle.decimals.specs.Reading.{Found, found, missing, further}
 use Rattle.sheets.specs.Sheet.{RawSheet, titleLine, hasTitle, Fields, fields, sheetOf, sheetLines, wholly, parse}
 use Rattle.sheets.specs.Held.{sheetHeld, linesOf, parsedOf}
 use Rattle.sheets.specs.declared.sheet.Lines.{Lines}
+use Rattle.decimals.proofs.Cursors.{begins-long}
 use Rattle.decimals.proofs.Readers.{takes-within}
+use Rattle.decimals.proofs.Answers.{behind-other, behind-here}
 use Rattle.sheets.proofs.SheetTexts.{reads-fields}
 
 -- ---- from an answer to what was found
@@ -33,23 +32,17 @@ found-lines l missing e t = absurd (false≢true (rw e at t))
 -- ---- the first line
 
 module _ (s : List ℕ) where
-  pub says-title : Says (hasTitle s) (take 25 s ≡ titleLine)
-  unfolding hasTitle
-  says-title = says-same-bytes (take 25 s) titleLine
-
   pub title-long : hasTitle s ≡ true → 25 ≤ length s
-  title-long e = omega (arith, ap length (says-title .to e), length-take 25 s)
-
-  pub short-title : length s < 25 → hasTitle s ≡ false
-  short-title h = says-no says-title (λ e. omega (arith, ap length e, length-take 25 s))
+  unfolding hasTitle
+  title-long e = begins-long titleLine s e
 
   pub other-title : hasTitle s ≡ false → sheetLines s ≡ missing
-  unfolding sheetLines behind hasTitle
-  other-title e = rw e
+  unfolding sheetLines hasTitle
+  other-title e = behind-other titleLine sheetOf fields s e
 
   pub same-title : hasTitle s ≡ true → sheetLines s ≡ further 25 sheetOf (fields (drop 25 s))
-  unfolding sheetLines behind hasTitle
-  same-title e = rw e
+  unfolding sheetLines hasTitle
+  same-title e = behind-here titleLine sheetOf fields s e
 
 -- ---- the second line, behind the first
 

@@ -15,26 +15,22 @@ use Rattle.decimals.specs.Text.{decimal, signed, joined}
 use Rattle.decimals.specs.Reading.{Found, found, missing, run, startsWith, ended, number, signedNumber, numbers}
 use Rattle.sheets.specs.Sheet.{RawSheet, titleLine, spaced, sheetText, Short, Within, IsText}
 use Rattle.sheets.specs.Sheet.{lengthAndRule, topAndSpacing, Fields, fields, sheetOf, sheetLines, wholly, parse}
-use Rattle.decimals.proofs.Readers.{Reads, Items, reads-number, reads-signed, reads-numbers, reads-ended, reads-both, reads-behind}
+use Rattle.decimals.proofs.Readers.{Reads, Items, reads-number-until, reads-signed-until, reads-numbers, reads-ended, reads-both, reads-behind}
 
 fieldsOf : RawSheet → Fields
 fieldsOf x = ((x .n, x .rule), ((x .top, x .spacing), x .start))
 
--- a space ends a number, and a line feed a list
-over : (r : List ℕ) → run (32 ∷ r) ≡ 0
-unfolding run
-over r = refl
-
+-- a line feed ends a list
 list-over : (r : List ℕ) → (run (10 ∷ r) ≡ 0) × (startsWith 44 (10 ∷ r) ≡ false)
 unfolding run startsWith
 list-over r = (refl, refl)
 
 -- the fields of the second line
 pub reads-field : Reads (ended number 32) (λ v. spaced (decimal v)) Short (λ r. Unit {0})
-reads-field = reads-ended 32 reads-number over
+reads-field = reads-number-until 32 refl
 
 pub reads-signed-field : Reads (ended signedNumber 32) (λ z. spaced (signed z)) (λ z. Short (natAbs z)) (λ r. Unit {0})
-reads-signed-field = reads-ended 32 reads-signed over
+reads-signed-field = reads-signed-until 32 refl
 
 pub reads-list : Reads (ended (numbers 16) 10) (λ l. joined l ++ (10 ∷ [])) (Items 16) (λ r. Unit {0})
 reads-list = reads-ended 10 (reads-numbers 16) list-over

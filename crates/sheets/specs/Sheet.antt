@@ -7,10 +7,10 @@ use Prim.Native.Char.{code}
 use Prim.Native.Nat.{ℕ, _≤_}
 use lib.Dec.{leb, eqb}
 use lib.IntN.{ℤ, natAbs}
-use lib.ListN.{length, take}
-use Rattle.frames.specs.Fields.{ascii, sameBytes}
+use lib.ListN.{length}
+use Rattle.frames.specs.Fields.{ascii}
 use Rattle.decimals.specs.Text.{decimal, signed, joined}
-use Rattle.decimals.specs.Reading.{Found, found, missing, Reader, both, behind, ended, number, signedNumber, numbers}
+use Rattle.decimals.specs.Reading.{Found, found, missing, Reader, both, beginsWith, behind, ended, number, signedNumber, numbers}
 
 pub record RawSheet : Type 0 where
   pub n : ℕ
@@ -63,7 +63,7 @@ pub record IsText (x : RawSheet) (s : List ℕ) : Type 0 where
 
 -- the text begins with the first line
 unfoldable pub hasTitle : List ℕ → Bool
-hasTitle s = sameBytes (take (length titleLine) s) titleLine
+hasTitle s = beginsWith titleLine s
 
 -- n and the rule, with a space after each
 unfoldable pub lengthAndRule : Reader (ℕ × ℕ)

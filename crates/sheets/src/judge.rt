@@ -32,7 +32,7 @@ fn no_round() -> Round
     Round {
         n: 0,
         rule: 0,
-        setting: Setting { top: 0, spacing: 0 },
+        setting: levels::setting_of(0, 0),
         window: [0u8; 16],
     }
 }
@@ -79,7 +79,7 @@ fn no_setting() -> SettingTest
 {
     SettingTest {
         ok: false,
-        setting: Setting { top: 0, spacing: 0 },
+        setting: levels::setting_of(0, 0),
     }
 }
 
@@ -94,10 +94,7 @@ fn setting_test(n: usize, top: i32, spacing: u32) -> SettingTest
     if !levels::spacing_ok(spacing) {
         return no_setting();
     }
-    let setting = Setting {
-        top: top as i16,
-        spacing: spacing as u16,
-    };
+    let setting = levels::setting_of(top as i16, spacing as u16);
     if !levels::setting_ok(n, setting) {
         return no_setting();
     }

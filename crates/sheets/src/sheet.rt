@@ -148,10 +148,7 @@ fn fields(s: &[u8]) -> Lines
 pub fn has_title(text: &[u8]) -> bool
     ensures { λ r. ⌜ r ≡ hasTitle (now (text .entry)) ⌝ }
 {
-    if text.len() < 25 {
-        return false;
-    }
-    check::same(&text[..25], b"n rule top spacing start\n")
+    decimals::begins_with(text, b"n rule top spacing start\n")
 }
 
 // The two lines at the start of a text.

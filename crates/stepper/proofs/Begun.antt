@@ -1,10 +1,11 @@
 -- What a session that counts as begun is known by, and that an accepted frame leaves such a session. Assumes nothing.
 use mathlib.Core.Bool.{Bool, true, false, cond, not, _&&_, _||_, false≢true}
 use mathlib.Core.List.{List}
-use mathlib.Core.Path.{_≡_, refl, sym, _∙_}
+use mathlib.Core.Path.{_≡_, refl, sym, subst, _∙_}
 use Prim.Native.Nat.{ℕ, _+_, _≤_, _<_}
 use native.Mathlib.Omega.{arith}
-use lib.Dec.{eqb}
+use lib.Dec.{leb, eqb}
+use lib.IntN.{ℤ}
 use lib.ListN.{length, take, drop}
 use lib.Seq.{length-take-le}
 use borrow.Author.Tests.{eqb-false, not-false}
@@ -79,7 +80,7 @@ pub record Begun (s : Session) : Type 0 where
 
 pub says-begun : (s : Session) → Says (hasBegun s) (Begun s)
 unfolding hasBegun begunIf beginReply
-says-begun s = rw (begin-judged s) (says-as
+says-begun s = subst (λ b. Says (eqb (s .begun) 1 && (b && leb (s .done) (a (s .n)))) (Begun s)) (sym (begin-judged s)) (says-as
     (says-and (says-eq (s .begun) 1) (says-and (says-round (s .n) (s .rule) (s .window) (s .setting)) (says-le (s .done) (a (s .n)))))
     (λ (flag, (round, within)). record { flag = flag; round = round; within = within })
     (λ b. (b .flag, (b .round, b .within))))
@@ -122,15 +123,15 @@ leaves-cond : (b : Bool) {x y : Exchanged} → (b ≡ true → Leaves x) → (b 
 leaves-cond true f g = f refl
 leaves-cond false f g = g refl
 
-round-begun : (f : List ℕ) → accepted (beginReply (roundIn f)) ≡ true → Begun (roundIn f)
+round-begun : (f : List ℕ) (h : List ℤ) → accepted (beginReply (roundIn f h)) ≡ true → Begun (roundIn f h)
 unfolding roundIn
-round-begun f t = record { flag = refl; round = says-round _ _ _ _ .to (sym (begin-judged (roundIn f)) ∙ t); within = omega arith }
+round-begun f h t = record { flag = refl; round = says-round _ _ _ _ .to (sym (begin-judged (roundIn f h)) ∙ t); within = omega arith }
 
 begin-leaves : (s : Session) (f : List ℕ) → Leaves (beginFrame s f)
 unfolding beginFrame
 begin-leaves s f = leaves-cond (not (reservedB f))
     (λ e. leaves-refused s ReservedByte)
-    (λ e. record { begun = λ t. rw t (round-begun f t) })
+    (λ e. record { begun = λ t. rw t (round-begun f (s .held) t) })
 
 module _ (s : Session) (l : length (s .window) ≡ 16) where
   step-leaves : (k : ℕ) → Leaves (stepOf s k)

@@ -1,10 +1,12 @@
 -- The cases of a step frame and of an exchange, each under the tests that lead to it. Assumes nothing.
 use mathlib.Core.Bool.{Bool, true, false, false≢true, cond, _&&_}
 use mathlib.Core.List.{List, _++_}
+use mathlib.Core.Option.{Option, none, some}
 use mathlib.Core.Path.{_≡_, refl, sym, ap, _∙_}
 use Prim.Native.Nat.{ℕ, _+_, _-_, _≤_, _<_}
 use native.Mathlib.Omega.{arith}
 use lib.Dec.{leb}
+use lib.IntN.{ℤ}
 use lib.ListN.{length, take, drop}
 use lib.Seq.{length-take-le, getD-take, take-length}
 use borrow.Author.Tests.{le-ltb, le-leb, eq-eqb, ne-eqb}
@@ -20,17 +22,20 @@ use Rattle.successors.specs.declared.Next.the-variants.{Symbol, Refused as NoSy
 use Rattle.successors.proofs.RuleNumbers.{form-bound}
 use Rattle.successors.proofs.Steppable.{Steppable, accepted as yes-judged, steppable-of, symbol-judged, no-symbol}
 use Rattle.refusals.specs.declared.Cause.{Cause}
-use Rattle.refusals.specs.declared.Cause.the-variants.{NotBegun, StepNumber, RoundFinished}
+use Rattle.refusals.specs.declared.Cause.the-variants.{NotBegun, StepNumber, RoundFinished, LevelFile}
 use Rattle.frames.specs.declared.answer.Reply.{Reply}
 use Rattle.frames.specs.declared.answer.Reply.the-variants.{Accepted, Refused}
 use Rattle.frames.specs.Fields.{byte}
 use Rattle.frames.specs.Question.{reservedB}
-use Rattle.frames.specs.Answer.{accepted, answerBytes, newest}
+use Rattle.frames.specs.Answer.{accepted, answerBytes, newest, stateReply}
 use Rattle.frames.proofs.Padding.{padded-take}
+use Rattle.level_files.specs.declared.TableRead.{TableRead}
+use Rattle.level_files.specs.Held.{tableRead}
+use Rattle.level_files.specs.LevelFile.{readTable}
 use Rattle.stepper.specs.declared.session.Exchanged.{Exchanged}
 use Rattle.stepper.specs.declared.session.Session.{Session}
 use Rattle.stepper.specs.Exchange.{replyIf, beginReply, begunIf, hasBegun, refuse, roundIn, beginFrame, onward, stepped, stepOf}
-use Rattle.stepper.specs.Exchange.{handle, answerTo, exchange}
+use Rattle.stepper.specs.Exchange.{handle, answerTo, exchange, withTable, loaded, loadLevels}
 use Rattle.stepper.proofs.Begun.{says-begun}
 
 -- a(n), as it is looked up, where n is a window's length
@@ -92,17 +97,17 @@ module _ (s : Session) where
         no-symbol (s .rule) (s .n) (take (s .n) (s .window)) e (yes-judged (s .rule) (s .n) (s .window) l passed))
 
 -- A begin frame, accepted or refused.
-module _ (s : Session) (f : List ℕ) (reply : Reply) (reserved : reservedB f ≡ true) (judged : reply ≡ beginReply (roundIn f)) where
-  pub begin-yes : accepted reply ≡ true → record { session = roundIn f; reply = reply } ≡ beginFrame s f
+module _ (s : Session) (f : List ℕ) (reply : Reply) (reserved : reservedB f ≡ true) (judged : reply ≡ beginReply (roundIn f (s .held))) where
+  pub begin-yes : accepted reply ≡ true → record { session = roundIn f (s .held); reply = reply } ≡ beginFrame s f
   unfolding beginFrame
   begin-yes t =
-      let t′ : accepted (beginReply (roundIn f)) ≡ true = ap accepted (sym judged) ∙ t in
+      let t′ : accepted (beginReply (roundIn f (s .held))) ≡ true = ap accepted (sym judged) ∙ t in
       rw (reserved, t′, judged)
 
   pub begin-no : accepted reply ≡ false → record { session = s; reply = reply } ≡ beginFrame s f
   unfolding beginFrame
   begin-no t =
-      let t′ : accepted (beginReply (roundIn f)) ≡ false = ap accepted (sym judged) ∙ t in
+      let t′ : accepted (beginReply (roundIn f (s .held))) ≡ false = ap accepted (sym judged) ∙ t in
       rw (reserved, t′, judged)
 
 -- Step frames.
@@ -180,3 +185,24 @@ pub written-over : (s : Session) (f buffer : List ℕ) (x : Exchanged) (bytes l 
 unfolding exchange
 written-over s f buffer x bytes l room h b long e =
     rw (le-ltb (length buffer) 40 room, ← h, e, take-length bytes, long, b)
+
+-- A level file, by what its reader answers.
+module _ (s : Session) (f : List ℕ) where
+  by-reading : (P : Option (List ℤ) → Type 0) → P none → ((t : List ℤ) → P (some t)) → (o : Option (List ℤ)) → P o
+  by-reading P n y none = n
+  by-reading P n y (some t) = y t
+
+  pub refused-file : (r : TableRead) → r ≡ tableRead (readTable f) → r .found ≡ false → refuse s LevelFile ≡ loadLevels s f
+  unfolding tableRead loaded loadLevels
+  refused-file r = by-reading (λ o. r ≡ tableRead o → r .found ≡ false → refuse s LevelFile ≡ loaded s o)
+      (λ e n. refl)
+      (λ t e n. absurd (false≢true (sym n ∙ ap (λ x. x .found) e)))
+      (readTable f)
+
+  pub table-loaded : (r : TableRead) → r ≡ tableRead (readTable f) → r .found ≡ true →
+      record { session = withTable s (r .table); reply = stateReply } ≡ loadLevels s f
+  unfolding tableRead loaded loadLevels
+  table-loaded r = by-reading (λ o. r ≡ tableRead o → r .found ≡ true → record { session = withTable s (r .table); reply = stateReply } ≡ loaded s o)
+      (λ e y. absurd (false≢true (sym (ap (λ x. x .found) e) ∙ y)))
+      (λ t e y. rw e)
+      (readTable f)

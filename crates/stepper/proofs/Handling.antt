@@ -20,7 +20,7 @@ use Rattle.frames.specs.Question.{isQuestion, kindIn, letterB, lengthIn, ruleIn
 use Rattle.frames.specs.Answer.{accepted}
 use Rattle.stepper.specs.declared.session.Exchanged.{Exchanged}
 use Rattle.stepper.specs.declared.session.Session.{Session}
-use Rattle.stepper.specs.Exchange.{windowOk, beginReply, refuse, roundIn, beginFrame, handle, answerTo, Outcome, exchange}
+use Rattle.stepper.specs.Exchange.{windowOk, beginReply, refuse, tableFor, roundIn, beginFrame, handle, answerTo, Outcome, exchange}
 use Rattle.stepper.specs.ExactlyOnce.{beginOk, BeginAccepted}
 use Rattle.stepper.proofs.Begun.{begin-judged}
 
@@ -52,18 +52,19 @@ begin-chain s r reply true true false = (refl, λ e. absurd (false≢true e))
 begin-chain s r reply true true true = (refl, λ e. rw e)
 
 module _ (s : Session) (g : List ℕ) (kind : kindIn g ≡ letterB) where
-  begin-handled : (accepted (handle s g .reply) ≡ beginOk g) × (accepted (handle s g .reply) ≡ true → handle s g .session ≡ roundIn g)
+  begin-handled : (accepted (handle s g .reply) ≡ beginOk g (s .held)) × (accepted (handle s g .reply) ≡ true → handle s g .session ≡ roundIn g (s .held))
   unfolding handle beginFrame beginOk roundIn
   begin-handled = rw (kind, ← tests)
-      (begin-chain s (roundIn g) (beginReply (roundIn g)) (eqb (length g) 40) (isQuestion g) (reservedB g))
+      (begin-chain s (roundIn g (s .held)) (beginReply (roundIn g (s .held))) (eqb (length g) 40) (isQuestion g) (reservedB g))
     where
-      tests : accepted (beginReply (roundIn g))
-          ≡ (isLength (lengthIn g) && (isRule (ruleIn g) && (windowOk (lengthIn g) (ruleIn g) (windowIn g) && settingOk (lengthIn g) (settingIn g))))
-      tests = begin-judged (roundIn g)
+      tests : accepted (beginReply (roundIn g (s .held)))
+          ≡ (isLength (lengthIn g) && (isRule (ruleIn g) && (windowOk (lengthIn g) (ruleIn g) (windowIn g)
+          && settingOk (lengthIn g) (settingIn g (tableFor g (s .held))))))
+      tests = begin-judged (roundIn g (s .held))
 
-  -- What an accepted begin frame leaves does not hang on the session.
+  -- What an accepted begin frame leaves hangs on the table held, and on nothing else of the session.
   pub begin-taken : (buffer : List ℕ) → accepted (exchange s g buffer .0 .reply) ≡ true →
-      (exchange s g buffer .0 .session ≡ roundIn g) × (beginOk g ≡ true)
+      (exchange s g buffer .0 .session ≡ roundIn g (s .held)) × (beginOk g (s .held) ≡ true)
   unfolding exchange accepted
   begin-taken buffer = by-test (ltb (length buffer) 40)
       (λ e. rw e (λ t. absurd (false≢true t)))

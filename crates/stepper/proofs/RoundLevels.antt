@@ -8,4 +8,4 @@ use Rattle.stepper.proofs.Begun.{says-begun}
 pub round-levels : RoundLevels
 round-levels s b =
     let r = says-begun s .to b .round in
-    levels-within (s .n) (s .rule) (s .setting) (take (s .n) (s .window)) (r .levels) (omega (arith, length-take (s .n) (s .window))) (r .form)
+    levels-within (s .n) (s .rule) (s .setting) (take (s .n) (s .window)) (r .high) (r .levels) (omega (arith, length-take (s .n) (s .window))) (r .form)

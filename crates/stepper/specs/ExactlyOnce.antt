@@ -1,11 +1,13 @@
--- Each step exactly once, whatever is sent again, damaged or lost (document 01, "Two benches", demand 3), over `exchange`. Document 01's
--- bench A is the reference session here, bench B the retried one.
+-- Each step exactly once, whatever is sent again, damaged or lost, and whatever level files are loaded in between (document 01, "Two
+-- benches", demand 3; document 02, Paper 4), over `exchange` and `loadLevels`. Document 01's bench A is the reference session here, bench B the
+-- retried one.
 use mathlib.Core.Bool.{Bool, true, false, cond, not, _&&_, _||_}
 use mathlib.Core.List.{List, [], _∷_, _++_, map}
-use mathlib.Core.Option.{some}
+use mathlib.Core.Option.{Option, none, some}
 use mathlib.Core.Path.{_≡_}
 use Prim.Native.Nat.{ℕ, zero, suc, _+_, _≤_, _<_}
 use lib.Dec.{leb, ltb, eqb}
+use lib.IntN.{ℤ}
 use lib.ListN.{length, take, drop, replicate, getElem?}
 use Rattle.weak_orders.specs.Window.{iter, different, isLength, padded}
 use Rattle.ranking.specs.Counts.{a}
@@ -17,13 +19,14 @@ use Rattle.refusals.specs.declared.Cause.the-variants.{ShortBuffer, FrameLength
 use Rattle.frames.specs.declared.answer.Reply.{Reply}
 use Rattle.frames.specs.declared.answer.Reply.the-variants.{Refused}
 use Rattle.levels.specs.Level.{settingOk}
-use Rattle.frames.specs.Question.{isQuestion, kindIn, letterB, letterS, lengthIn, ruleIn, numberIn, settingIn, windowIn}
+use Rattle.frames.specs.Question.{isQuestion, kindIn, letterB, letterS, lengthIn, ruleIn, numberIn, settingIn, windowIn, takesTable}
 use Rattle.frames.specs.Question.{reservedB, reservedS}
 use Rattle.frames.specs.Answer.{accepted, wka1, answerBytes, stepReply}
+use Rattle.level_files.specs.LevelFile.{readTable}
 use Rattle.stepper.specs.declared.session.Session.{Session}
-use Rattle.stepper.specs.Exchange.{windowOk, hasBegun, Outcome, exchange}
+use Rattle.stepper.specs.Exchange.{windowOk, hasBegun, tableFor, Outcome, exchange, loadLevels}
 
--- The count. It is fed the begin frame g, the frames that follow and the lengths of their buffers: no session and no answer.
+-- The count. It is fed the begin frame g, the frames that follow and the lengths of their buffers: no session, no answer and no level file.
 
 -- what the count hears of: a frame, and the length of the buffer for its answer
 pub record Arrival : Type 0 where
@@ -90,20 +93,28 @@ unfoldable pub windowAfter : List ℕ → ℕ → List ℕ
 unfolding iter ruleOf step startOf
 windowAfter g k = iter (step (ruleOf (ruleIn g))) k (startOf g)
 
--- the session of that round with k steps done
-unfoldable pub sessionAt : List ℕ → ℕ → Session
+-- the session of that round with k steps done, where the round's copy of a table is t, and the table held is h
+unfoldable pub sessionAt : List ℕ → List ℤ → List ℤ → ℕ → Session
 unfolding settingIn padded windowAfter
-sessionAt g k =
-    record { begun = 1; n = lengthIn g; rule = ruleIn g; setting = settingIn g; window = padded (windowAfter g k); done = k }
+sessionAt g t h k =
+    record {
+      begun = 1;
+      n = lengthIn g;
+      rule = ruleIn g;
+      setting = settingIn g t;
+      window = padded (windowAfter g k);
+      done = k;
+      held = h;
+    }
 
--- the reply to a step frame numbered k, and its forty bytes
-unfoldable pub replyAt : List ℕ → ℕ → Reply
+-- the reply to a step frame numbered k, and its forty bytes: by the copy, whatever table is held
+unfoldable pub replyAt : List ℕ → List ℤ → ℕ → Reply
 unfolding settingIn stepReply windowAfter
-replyAt g k = stepReply (ruleIn g) (settingIn g) (windowAfter g k)
+replyAt g t k = stepReply (ruleIn g) (settingIn g t) (windowAfter g k)
 
-unfoldable pub answerAt : List ℕ → ℕ → List ℕ
+unfoldable pub answerAt : List ℕ → List ℤ → ℕ → List ℕ
 unfolding different padded answerBytes replyAt windowAfter
-answerAt g k = answerBytes (replyAt g k) (different (windowAfter g k)) k (padded (windowAfter g k))
+answerAt g t k = answerBytes (replyAt g t k) (different (windowAfter g k)) k (padded (windowAfter g k))
 
 -- The two sessions: the reference one (document 01's bench A) and the retried one (bench B).
 
@@ -115,55 +126,85 @@ pub record Request : Type 0 where
 abbrev pub arrival : Request → Arrival
 arrival x = record { frame = x .frame; room = length (x .buffer) }
 
--- what the frames of a list come to, each on the session that the one before left
-unfoldable pub run : Session → List Request → List Outcome
-unfolding exchange
-run s [] = []
-run s (x ∷ l) =
-    let o = exchange s (x .frame) (x .buffer) in
-    o ∷ run (o .0 .session) l
+-- what comes to a session: a frame with its buffer, or a level file
+pub data Event : Type 0 where
+  question : Request → Event
+  levelFile : List ℕ → Event
 
--- the session that a list leaves
-unfoldable pub after : Session → List Request → Session
-unfolding exchange
+-- the frames of a list, and what the count hears of it
+unfoldable pub questions : List Event → List Request
+questions [] = []
+questions (question x ∷ l) = x ∷ questions l
+questions (levelFile f ∷ l) = questions l
+
+unfoldable pub arrivals : List Event → List Arrival
+unfolding questions
+arrivals l = map arrival (questions l)
+
+-- the session that an event leaves, and a list of them
+unfoldable pub next : Session → Event → Session
+unfolding exchange loadLevels
+next s (question x) = exchange s (x .frame) (x .buffer) .0 .session
+next s (levelFile f) = loadLevels s f .session
+
+unfoldable pub after : Session → List Event → Session
+unfolding next
 after s [] = s
-after s (x ∷ l) = after (exchange s (x .frame) (x .buffer) .0 .session) l
+after s (e ∷ l) = after (next s e) l
 
--- a begin frame passes tests 2 to 9
-unfoldable pub beginOk : List ℕ → Bool
-unfolding isQuestion reservedB isLength isRule windowOk settingIn settingOk
-beginOk g =
+-- the buffers of the frames of a list, after each
+unfoldable pub answers : Session → List Event → List (List ℕ)
+unfolding next exchange
+answers s [] = []
+answers s (question x ∷ l) = exchange s (x .frame) (x .buffer) .1 ∷ answers (next s (question x)) l
+answers s (levelFile f ∷ l) = answers (next s (levelFile f)) l
+
+-- the table held after a list of events: that of the last file that has one
+unfoldable pub tableOr : List ℤ → Option (List ℤ) → List ℤ
+tableOr h (some t) = t
+tableOr h none = h
+
+unfoldable pub heldAfter : List ℤ → List Event → List ℤ
+unfolding tableOr readTable
+heldAfter h [] = h
+heldAfter h (question x ∷ l) = heldAfter h l
+heldAfter h (levelFile f ∷ l) = heldAfter (tableOr h (readTable f)) l
+
+-- a begin frame passes tests 2 to 9, where the table h is held
+unfoldable pub beginOk : List ℕ → List ℤ → Bool
+unfolding isQuestion reservedB isLength isRule windowOk settingIn tableFor settingOk
+beginOk g h =
     eqb (length g) 40 && (isQuestion g && (eqb (kindIn g) letterB && (reservedB g && (isLength (lengthIn g) && (isRule (ruleIn g)
-    && (windowOk (lengthIn g) (ruleIn g) (windowIn g) && settingOk (lengthIn g) (settingIn g)))))))
+    && (windowOk (lengthIn g) (ruleIn g) (windowIn g) && settingOk (lengthIn g) (settingIn g (tableFor g h))))))))
 
--- A begin frame with room for its answer is accepted just if it passes these, whatever the session was.
+-- A begin frame with room for its answer is accepted just if it passes these: of the session only the table held counts.
 abbrev pub BeginAccepted : Type 0
 BeginAccepted =
     (s : Session) (g buffer : List ℕ) → kindIn g ≡ letterB → 40 ≤ length buffer →
-    accepted (exchange s g buffer .0 .reply) ≡ beginOk g
+    accepted (exchange s g buffer .0 .reply) ≡ beginOk g (s .held)
 
--- the reference session's list: for each number from 1 to `end`, in order, one step frame that passes
+-- the reference session's frames: for each number from 1 to `end`, in order, one step frame that passes
 pub record InOrder (end : ℕ) (list : List Request) : Type 0 where
   pub long : length list ≡ end
   pub step : (i : ℕ) (x : Request) → getElem? list i ≡ some x → kindIn (x .frame) ≡ letterS
   pub pass : (i : ℕ) (x : Request) → getElem? list i ≡ some x → passes (arrival x) ≡ true
   pub numbered : (i : ℕ) (x : Request) → getElem? list i ≡ some x → numberIn (x .frame) ≡ i + 1
 
--- the retried session's list: any frames whose byte 4 is S
-pub record StepFrames (list : List Request) : Type 0 where
-  pub step : (i : ℕ) (x : Request) → getElem? list i ≡ some x → kindIn (x .frame) ≡ letterS
+-- the retried session's frames: any whose byte 4 is S
+pub record StepFrames (list : List Event) : Type 0 where
+  pub step : (i : ℕ) (x : Request) → getElem? list i ≡ some (question x) → kindIn (x .frame) ≡ letterS
 
--- At position i of the list stands the request x; the count before it is c; run from the session s, it comes to o.
-pub record Position (g : List ℕ) (s : Session) (list : List Request) (i : ℕ) (x : Request) (c : ℕ) (o : Outcome) : Type 0 where
-  pub sent : getElem? list i ≡ some x
-  pub count : countOf g (map arrival (take i list)) ≡ c
-  pub came : getElem? (run s list) i ≡ some o
+-- At position i of the list stands the request x; the count before it is c; on the session that the list left before it, it comes to o.
+pub record Position (g : List ℕ) (s : Session) (list : List Event) (i : ℕ) (x : Request) (c : ℕ) (o : Outcome) : Type 0 where
+  pub sent : getElem? list i ≡ some (question x)
+  pub count : countOf g (arrivals (take i list)) ≡ c
+  pub came : exchange (after s (take i list)) (x .frame) (x .buffer) ≡ o
 
 -- The frame numbered k was accepted: the first forty bytes of its buffer are those that "Frames" gives for W_k with k steps
 -- done, and the others are what they were.
-pub record Answered (g : List ℕ) (k : ℕ) (buffer : List ℕ) (o : Outcome) : Type 0 where
-  pub reply : o .0 .reply ≡ replyAt g k
-  pub bytes : take 40 (o .1) ≡ answerAt g k
+pub record Answered (g : List ℕ) (t : List ℤ) (k : ℕ) (buffer : List ℕ) (o : Outcome) : Type 0 where
+  pub reply : o .0 .reply ≡ replyAt g t k
+  pub bytes : take 40 (o .1) ≡ answerAt g t k
   pub rest : drop 40 (o .1) ≡ drop 40 buffer
 
 -- The frame was refused (document 01's "turned down") for a cause: the session and the bytes past forty are what they were, and so is a buffer under forty bytes.
@@ -174,67 +215,80 @@ pub record Rejected (cause : Cause) (s : Session) (buffer : List ℕ) (o : Outco
   pub bytes : 40 ≤ length buffer → take 40 (o .1) ≡ wka1 ++ (causeNumber cause ∷ []) ++ replicate 35 0
   pub rest : drop 40 (o .1) ≡ drop 40 buffer
 
--- Among the outcomes, that of the frame numbered k, counted from 1, holds the same forty bytes as o.
-pub record SameAnswer (outcomes : List Outcome) (k : ℕ) (o : Outcome) : Type 0 where
+-- In the list of the session s stands a frame numbered k, and what it came to holds the same forty bytes as o.
+pub record SameAnswer (s : Session) (list : List Event) (k : ℕ) (o : Outcome) : Type 0 where
   pub at : ℕ
-  pub numbered : k ≡ at + 1
-  pub other : Outcome
-  pub came : getElem? outcomes at ≡ some other
-  pub same : take 40 (o .1) ≡ take 40 (other .1)
+  pub other : Request
+  pub sent : getElem? list at ≡ some (question other)
+  pub numbered : numberIn (other .frame) ≡ k
+  pub same : take 40 (o .1) ≡ take 40 (exchange (after s (take at list)) (other .frame) (other .buffer) .1)
 
 -- c + 1, …, c + m
 unfoldable pub numbersAfter : ℕ → ℕ → List ℕ
 numbersAfter c zero = []
 numbersAfter c (suc m) = (c + 1) ∷ numbersAfter (c + 1) m
 
--- the sessions left by those frames of a list that the count takes as the next step: right after each first acceptance
-unfoldable pub firsts : ℕ → ℕ → List Request → List Outcome → List Session
-unfolding isNext
-firsts end c [] outcomes = []
-firsts end c (x ∷ l) [] = []
-firsts end c (x ∷ l) (o ∷ outcomes) =
-    cond (isNext end c (arrival x)) (o .0 .session ∷ firsts end (c + 1) l outcomes) (firsts end c l outcomes)
+-- the windows that those frames of a list leave which the count takes as the next step: right after each first acceptance
+unfoldable pub firsts : ℕ → ℕ → Session → List Event → List (List ℕ)
+unfolding isNext next
+firsts end c s [] = []
+firsts end c s (question x ∷ l) =
+    let s′ = next s (question x) in
+    cond (isNext end c (arrival x)) (s′ .window ∷ firsts end (c + 1) s′ l) (firsts end c s′ l)
+firsts end c s (levelFile f ∷ l) = firsts end c (next s (levelFile f)) l
 
--- Document 01's demand 3, where the begin frame g left the two sessions; then the reference session got the list `ordered`, and the retried
--- one the list `arrived`.
-pub record ExactlyOnce (g : List ℕ) (reference retried : Session) (ordered arrived : List Request) : Type 0 where
-  -- 1. each frame comes to an outcome, and the retried session accepts just what the count accepts
-  pub long-reference : length (run reference ordered) ≡ length ordered
-  pub long-retried : length (run retried arrived) ≡ length arrived
+-- Document 01's demand 3, where the begin frame g left the two sessions of R₀ and T₀; then the reference session got the list `ordered`, and
+-- the retried one the list `arrived`.
+pub record ExactlyOnce (g : List ℕ) (R₀ T₀ reference retried : Session) (ordered arrived : List Event) : Type 0 where
+  -- 0. the begin frame takes a copy of the table held, where it asks for one, and keeps it held
+  pub left-reference : reference ≡ sessionAt g (tableFor g (R₀ .held)) (R₀ .held) 0
+  pub left-retried : retried ≡ sessionAt g (tableFor g (T₀ .held)) (T₀ .held) 0
+  -- 1. the retried session accepts just what the count accepts
   pub accepted-retried : {i : ℕ} {x : Request} {c : ℕ} {o : Outcome} → Position g retried arrived i x c o →
       accepted (o .0 .reply) ≡ accepts (roundOf g) c (arrival x)
   -- 2. and answers it with the bytes for W_k, which are those that the reference session gave for k
   pub answered-retried : {i : ℕ} {x : Request} {c : ℕ} {o : Outcome} → Position g retried arrived i x c o →
       accepts (roundOf g) c (arrival x) ≡ true →
-      Answered g (numberIn (x .frame)) (x .buffer) o × SameAnswer (run reference ordered) (numberIn (x .frame)) o
-  pub answered-reference : (i : ℕ) (x : Request) (o : Outcome) → getElem? ordered i ≡ some x → getElem? (run reference ordered) i ≡ some o →
-      Answered g (i + 1) (x .buffer) o
+      Answered g (tableFor g (T₀ .held)) (numberIn (x .frame)) (x .buffer) o × SameAnswer reference ordered (numberIn (x .frame)) o
+  pub answered-reference : {i : ℕ} {x : Request} {c : ℕ} {o : Outcome} → Position g reference ordered i x c o →
+      Answered g (tableFor g (R₀ .held)) (numberIn (x .frame)) (x .buffer) o
   -- 3. any other is refused for its cause, and leaves the session
   pub refused-retried : {i : ℕ} {x : Request} {c : ℕ} {o : Outcome} → Position g retried arrived i x c o →
       accepts (roundOf g) c (arrival x) ≡ false → Rejected (causeAt c (arrival x)) (after retried (take i arrived)) (x .buffer) o
-  -- 4. after i frames, and after them all, the retried session stands at the count, which never exceeds a(n); after k frames the reference
-  -- session stands at k; and such a session has begun
-  pub count-within : (i : ℕ) → countOf g (map arrival (take i arrived)) ≤ roundOf g
-  pub end-within : countOf g (map arrival arrived) ≤ roundOf g
-  pub on-retried : (i : ℕ) → after retried (take i arrived) ≡ sessionAt g (countOf g (map arrival (take i arrived)))
-  pub end-retried : after retried arrived ≡ sessionAt g (countOf g (map arrival arrived))
-  pub on-reference : (k : ℕ) → k ≤ roundOf g → after reference (take k ordered) ≡ sessionAt g k
-  pub begun : (k : ℕ) → k ≤ roundOf g → hasBegun (sessionAt g k) ≡ true
-  -- so, at the count k after its list, the retried session's steps done are k, and they and its window are those of the reference
-  -- session after k steps
-  pub done-retried : after retried arrived .done ≡ countOf g (map arrival arrived)
-  pub same-done : after retried arrived .done ≡ after reference (take (countOf g (map arrival arrived)) ordered) .done
-  pub same-window : after retried arrived .window ≡ after reference (take (countOf g (map arrival arrived)) ordered) .window
-  -- 5. W_1 … W_a(n) are the weak orders of n in the rule's form, each once, and the last is the start window; the reference session's
-  -- states after its frames hold them in order, and so do the retried one's right after each first acceptance, as far as the count came
+  -- 4. after i events, and after them all, the retried session stands at the count, which never exceeds a(n), and the reference session at
+  -- the number of its frames; level files change the table held and nothing else; and such a session has begun, whatever table is held
+  pub count-within : (i : ℕ) → countOf g (arrivals (take i arrived)) ≤ roundOf g
+  pub end-within : countOf g (arrivals arrived) ≤ roundOf g
+  pub on-retried : (i : ℕ) → after retried (take i arrived)
+      ≡ sessionAt g (tableFor g (T₀ .held)) (heldAfter (T₀ .held) (take i arrived)) (countOf g (arrivals (take i arrived)))
+  pub end-retried : after retried arrived
+      ≡ sessionAt g (tableFor g (T₀ .held)) (heldAfter (T₀ .held) arrived) (countOf g (arrivals arrived))
+  pub on-reference : (i : ℕ) → after reference (take i ordered)
+      ≡ sessionAt g (tableFor g (R₀ .held)) (heldAfter (R₀ .held) (take i ordered)) (length (questions (take i ordered)))
+  pub begun : (h : List ℤ) (k : ℕ) → k ≤ roundOf g → hasBegun (sessionAt g (tableFor g (T₀ .held)) h k) ≡ true
+  -- so, at the count k after its list, the retried session's steps done are k, and they and its window are those of the reference session
+  -- after k frames, wherever in its list that is
+  pub done-retried : after retried arrived .done ≡ countOf g (arrivals arrived)
+  pub reached : (i : ℕ) × (length (questions (take i ordered)) ≡ countOf g (arrivals arrived))
+  pub same-done : (i : ℕ) → length (questions (take i ordered)) ≡ countOf g (arrivals arrived) →
+      after retried arrived .done ≡ after reference (take i ordered) .done
+  pub same-window : (i : ℕ) → length (questions (take i ordered)) ≡ countOf g (arrivals arrived) →
+      after retried arrived .window ≡ after reference (take i ordered) .window
+  -- 5. level files change no answer: the frames alone get the same buffers
+  pub loads-reference : answers reference ordered ≡ answers reference (map question (questions ordered))
+  pub loads-retried : answers retried arrived ≡ answers retried (map question (questions arrived))
+  -- 6. W_1 … W_a(n) are the weak orders of n in the rule's form, each once, and the last is the start window; the reference session holds
+  -- them in order after its frames, and so does the retried one right after each first acceptance, as far as the count came
   pub listing : Tour (WeakOrder (lengthIn g) (ruleIn g)) (step (ruleOf (ruleIn g))) (roundOf g) (startOf g)
-  pub firsts-reference : firsts (roundOf g) 0 ordered (run reference ordered) ≡ map (sessionAt g) (numbersAfter 0 (roundOf g))
-  pub firsts-retried : firsts (roundOf g) 0 arrived (run retried arrived) ≡ map (sessionAt g) (numbersAfter 0 (countOf g (map arrival arrived)))
+  pub firsts-reference : firsts (roundOf g) 0 reference ordered ≡ map (λ k. padded (windowAfter g k)) (numbersAfter 0 (roundOf g))
+  pub firsts-retried : firsts (roundOf g) 0 retried arrived ≡ map (λ k. padded (windowAfter g k)) (numbersAfter 0 (countOf g (arrivals arrived)))
 
--- A begin frame was sent to two sessions, whatever they were, and accepted by both; then the two lists.
+-- A begin frame was sent to two sessions, whatever they were, and accepted by both; where it asks for a table, they held the same one; then
+-- the two lists, with level files anywhere in either.
 abbrev pub StepsExactlyOnce : Type 0
 StepsExactlyOnce =
-    (R₀ T₀ : Session) (g bufferR bufferT : List ℕ) (ordered arrived : List Request) → kindIn g ≡ letterB →
+    (R₀ T₀ : Session) (g bufferR bufferT : List ℕ) (ordered arrived : List Event) → kindIn g ≡ letterB →
     accepted (exchange R₀ g bufferR .0 .reply) ≡ true → accepted (exchange T₀ g bufferT .0 .reply) ≡ true →
-    InOrder (roundOf g) ordered → StepFrames arrived →
-    ExactlyOnce g (exchange R₀ g bufferR .0 .session) (exchange T₀ g bufferT .0 .session) ordered arrived
+    (takesTable g ≡ true → R₀ .held ≡ T₀ .held) →
+    InOrder (roundOf g) (questions ordered) → StepFrames arrived →
+    ExactlyOnce g R₀ T₀ (exchange R₀ g bufferR .0 .session) (exchange T₀ g bufferT .0 .session) ordered arrived

@@ -1,23 +1,27 @@
--- What a frame does to a session and to the buffer lent for its answer (document 01, "Frames" and "Turned down").
+-- What a frame does to a session and to the buffer lent for its answer (document 01, "Frames" and "Turned down"), and what a level file does
+-- to a session (document 02, Paper 4).
 use mathlib.Core.Bool.{Bool, true, false, cond, not, _&&_, _||_}
 use mathlib.Core.List.{List, _++_}
+use mathlib.Core.Option.{Option, none, some}
 use Prim.Native.Nat.{ℕ, _+_}
 use lib.Dec.{leb, ltb, eqb}
-use lib.IntN.{pos}
+use lib.IntN.{ℤ, pos}
 use lib.ListN.{length, take, drop, replicate}
 use Rattle.weak_orders.specs.Window.{different, isLength, padded}
 use Rattle.ranking.specs.Counts.{a}
 use Rattle.successors.specs.Rules.{ruleOf, inForm, isRule, step}
 use Rattle.refusals.specs.declared.Cause.{Cause}
 use Rattle.refusals.specs.declared.Cause.the-variants.{ShortBuffer, FrameLength, FrameHeader, FrameKind, ReservedByte, WindowLength}
-use Rattle.refusals.specs.declared.Cause.the-variants.{RuleNumber, NotWeakOrder, LevelSetting, NotBegun, StepNumber, RoundFinished}
+use Rattle.refusals.specs.declared.Cause.the-variants.{RuleNumber, NotWeakOrder, LevelSetting, NotBegun, StepNumber, RoundFinished, LevelFile}
 use Rattle.frames.specs.declared.answer.Reply.{Reply}
 use Rattle.frames.specs.declared.answer.Reply.the-variants.{Refused}
 use Rattle.frames.specs.Fields.{zeros}
-use Rattle.levels.specs.Level.{settingOk}
-use Rattle.frames.specs.Question.{isQuestion, kindIn, letterB, letterS, letterQ, lengthIn, ruleIn, numberIn, settingIn, windowIn}
+use Rattle.levels.specs.Table.{noTable}
+use Rattle.levels.specs.Level.{settingOf, settingOk}
+use Rattle.frames.specs.Question.{isQuestion, kindIn, letterB, letterS, letterQ, lengthIn, ruleIn, numberIn, settingIn, windowIn, takesTable}
 use Rattle.frames.specs.Question.{reservedB, reservedS, reservedQ}
 use Rattle.frames.specs.Answer.{accepted, answerBytes, stepReply, stateReply}
+use Rattle.level_files.specs.LevelFile.{readTable}
 use Rattle.stepper.specs.declared.session.Exchanged.{Exchanged}
 use Rattle.stepper.specs.declared.session.Session.{Session}
 
@@ -26,7 +30,8 @@ unfoldable pub windowOk : ℕ → ℕ → List ℕ → Bool
 unfolding inForm zeros
 windowOk n rule w = inForm rule (take n w) && zeros (drop n w)
 
--- the reply to a B for the round that the session holds: tests 6 to 9, where `formed` says whether its window is in the rule's form
+-- the reply to a B for the round that the session holds: tests 6 to 9, where `formed` says whether its window is in the rule's form. Test 9
+-- of a round on a table looks at the round's own copy, and not at the table held
 unfoldable pub replyIf : Session → Bool → Reply
 unfolding isLength isRule zeros settingOk
 replyIf s formed =
@@ -49,28 +54,42 @@ unfoldable pub hasBegun : Session → Bool
 unfolding inForm begunIf
 hasBegun s = begunIf s (inForm (s .rule) (take (s .n) (s .window)))
 
--- a fresh session has not begun
+-- a fresh session has not begun, and holds no table
 unfoldable pub fresh : Session
 fresh =
-    record { begun = 0; n = 0; rule = 0; setting = record { top = pos 0; spacing = 0 }; window = replicate 16 0; done = 0 }
+    record { begun = 0; n = 0; rule = 0; setting = settingOf (pos 0) 0; window = replicate 16 0; done = 0; held = noTable }
 
 -- a refusal leaves the session
 abbrev pub refuse : Session → Cause → Exchanged
 refuse s cause = record { session = s; reply = Refused cause }
 
--- the session that an accepted B leaves, whatever was there before
-unfoldable pub roundIn : List ℕ → Session
-unfolding settingIn windowIn
-roundIn f =
-    record { begun = 1; n = lengthIn f; rule = ruleIn f; setting = settingIn f; window = windowIn f; done = 0 }
+-- the copy that the round of a B gets of the table held: the table itself if the B asks for it, otherwise none
+unfoldable pub tableFor : List ℕ → List ℤ → List ℤ
+unfolding takesTable
+tableFor f held = cond (takesTable f) held noTable
+
+-- the session that an accepted B leaves: of what was there before, only the table held
+unfoldable pub roundIn : List ℕ → List ℤ → Session
+unfolding settingIn windowIn tableFor
+roundIn f held =
+    record {
+      begun = 1;
+      n = lengthIn f;
+      rule = ruleIn f;
+      setting = settingIn f (tableFor f held);
+      window = windowIn f;
+      done = 0;
+      held = held;
+    }
 
 -- B, from test 5 on
 unfoldable pub beginFrame : Session → List ℕ → Exchanged
 unfolding reservedB accepted beginReply roundIn
 beginFrame s f =
-    let reply = beginReply (roundIn f) in
+    let round = roundIn f (s .held) in
+    let reply = beginReply round in
     cond (not (reservedB f)) (refuse s ReservedByte)
-    (record { session = cond (accepted reply) (roundIn f) s; reply = reply })
+    (record { session = cond (accepted reply) round s; reply = reply })
 
 -- the window stepped once, and one more step done
 unfoldable pub onward : Session → Session
@@ -83,6 +102,7 @@ onward s =
       setting = s .setting;
       window = padded (step (ruleOf (s .rule)) (take (s .n) (s .window)));
       done = s .done + 1;
+      held = s .held;
     }
 
 -- an accepted S left the session s: a step and its resends get the same answer
@@ -141,3 +161,26 @@ unfolding handle answerTo
 exchange s f buffer =
     cond (ltb (length buffer) 40) (refuse s ShortBuffer, buffer)
     (handle s f, answerTo (handle s f) ++ drop 40 buffer)
+
+-- a table that is loaded replaces the one held, and nothing else changes
+unfoldable pub withTable : Session → List ℤ → Session
+withTable s t =
+    record {
+      begun = s .begun;
+      n = s .n;
+      rule = s .rule;
+      setting = s .setting;
+      window = s .window;
+      done = s .done;
+      held = t;
+    }
+
+-- a level file: one that is not as described is refused, and leaves the session
+unfoldable pub loaded : Session → Option (List ℤ) → Exchanged
+unfolding withTable
+loaded s (some t) = record { session = withTable s t; reply = stateReply }
+loaded s none = refuse s LevelFile
+
+unfoldable pub loadLevels : Session → List ℕ → Exchanged
+unfolding loaded readTable
+loadLevels s file = loaded s (readTable file)

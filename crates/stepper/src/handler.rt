@@ -3,7 +3,7 @@ ghost use mathlib.Core.Bool.{true};
 ghost use mathlib.Core.Path.{_≡_};
 ghost use lib.ListN.{length};
 ghost use Rattle.frames.specs.Answer.{accepted};
-ghost use Rattle.stepper.specs.Exchange.{roundIn, hasBegun, beginFrame, stepFrame, queryFrame, handle, answerTo};
+ghost use Rattle.stepper.specs.Exchange.{tableFor, roundIn, hasBegun, beginFrame, stepFrame, queryFrame, handle, answerTo};
 use crate::session;
 use crate::session::Exchanged;
 use crate::session::Session;
@@ -21,11 +21,21 @@ fn load(frame: &[u8]) -> [u8; 40]
     f
 }
 
-// The session that a begin frame asks for.
-fn round_in(f: [u8; 40]) -> Session
-    ensures { λ r. ⌜ r ≡ roundIn f ⌝ }
+// The round's copy of the table held, if a begin frame asks for it.
+fn table_for(f: [u8; 40], held: [i16; 16]) -> [i16; 16]
+    ensures { λ r. ⌜ r ≡ tableFor f held ⌝ }
 {
-    let setting = question::setting_in(f);
+    if question::takes_table(f) {
+        return held;
+    }
+    [0i16; 16]
+}
+
+// The session that a begin frame asks for.
+fn round_in(f: [u8; 40], held: [i16; 16]) -> Session
+    ensures { λ r. ⌜ r ≡ roundIn f held ⌝ }
+{
+    let setting = question::setting_in(f, table_for(f, held));
     let window = question::window_in(f);
     Session {
         begun: 1,
@@ -34,6 +44,7 @@ fn round_in(f: [u8; 40]) -> Session
         setting: setting,
         window: window,
         done: 0,
+        held: held,
     }
 }
 
@@ -44,7 +55,8 @@ fn begin_frame(session: Session, f: [u8; 40]) -> Exchanged
     if !question::reserved_begin(f) {
         return session.refuse(Cause::ReservedByte);
     }
-    let next = round_in(f);
+    let held = session.held;
+    let next = round_in(f, held);
     let reply = session::begin_reply(next);
     match reply {
         Reply::Accepted {

@@ -16,7 +16,7 @@ use refusals::Cause;
 use successors::Next;
 
 // A session. Any values of the fields may be handed in; `has_begun` judges them. `begun` is a byte, since a session that a device kept
-// may hold any: 1 has begun, every other value has not.
+// may hold any: 1 has begun, every other value has not. `held` is the level table loaded last; a round on a table has a copy in its setting.
 #[repr(C)]
 pub struct Session {
     pub begun: u8,
@@ -25,9 +25,10 @@ pub struct Session {
     pub setting: Setting,
     pub window: [u8; 16],
     pub done: u64,
+    pub held: [i16; 16],
 }
 
-// What a frame comes to: the session after it, and the reply.
+// What a frame comes to, or a level file: the session after it, and the reply.
 pub struct Exchanged {
     pub session: Session,
     pub reply: Reply,
@@ -76,7 +77,7 @@ pub fn begin_reply(s: Session) -> Reply
 }
 
 impl Session {
-    // A session that has not begun.
+    // A session that has not begun, and holds no table.
     pub fn fresh() -> Session
         ensures { λ r. ⌜ r ≡ fresh ⌝ }
     {
@@ -84,9 +85,10 @@ impl Session {
             begun: 0,
             n: 0,
             rule: 0,
-            setting: Setting { top: 0, spacing: 0 },
+            setting: levels::setting_of(0, 0),
             window: [0u8; 16],
             done: 0,
+            held: [0i16; 16],
         }
     }
 

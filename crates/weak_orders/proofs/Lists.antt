@@ -1,16 +1,17 @@
 -- Laws of lists: members, `all`, `count`, `range`, sums over a list, the last element that fails a test. Assumes nothing.
-use mathlib.Core.Bool.{Bool, true, false}
+use mathlib.Core.Bool.{Bool, true, false, _&&_}
 use mathlib.Core.List.{List, [], _∷_, _++_, map, List·Memᴰ·head as head, List·Memᴰ·tail as tail, Memᴰ·append-left, Memᴰ·append-right}
 use mathlib.Core.List.{List·Memᴰ·append-cases, List·Memᴰ·eq-of-singleton, head-eq-of-cons-eq, tail-eq-of-cons-eq}
 use mathlib.Core.Logic.{⊎-elim}
 use mathlib.Core.Path.{_≡_, refl, sym, ap, ap₂, subst, _∙_}
 use Prim.Native.Nat.{ℕ, zero, suc, _+_, _*_, _≤_, _<_}
 use native.Mathlib.Nat.{suc-mul}
+use native.Mathlib.Numerals.{add-one}
 use native.Mathlib.Omega.{arith}
 use native.Mathlib.Decide.{decLt}
 use lib.Dec.{eqb}
-use lib.ListN.{length, getD, take, drop, take-append-drop, replicate, length-append, List·getD-append}
-use lib.Seq.{getD-at}
+use lib.ListN.{length, getD, take, drop, take-append-drop, drop-of-length-le, replicate, length-append, List·getD-append}
+use lib.Seq.{drop-cons, getD-at}
 use Rattle.weak_orders.specs.Says.{Says}
 use Rattle.weak_orders.specs.Window.{all, count, range}
 use Rattle.weak_orders.proofs.Tests.{_∈_, here, there, nowhere, split-mem, by-test, bit, bit≤1, says?, says-as, says-itself}
@@ -86,6 +87,15 @@ module _ {A : Type 0} (p : A → Bool) where
 
   pub all-of : (xs : List A) → ((x : A) → x ∈ xs → p x ≡ true) → all p xs ≡ true
   all-of xs h = says-all (λ y. says-itself (p y)) xs .of h
+
+  -- all from i on pass just if the first does, and those behind it
+  pub all-from : (d : A) (xs : List A) (i : ℕ) → i < length xs → all p (drop i xs) ≡ (p (getD xs i d) && all p (drop (i + 1) xs))
+  unfolding all
+  all-from d xs i h = rw (drop-cons xs i d h, add-one i)
+
+  pub all-past : (xs : List A) (i : ℕ) → length xs ≤ i → all p (drop i xs) ≡ true
+  unfolding all
+  all-past xs i h = rw (drop-of-length-le xs h)
 
 -- what passes one test passes the other
 pub count-mono : {A : Type 0} (p q : A → Bool) (xs : List A) → ((x : A) → x ∈ xs → p x ≡ true → q x ≡ true) → count p xs ≤ count q xs

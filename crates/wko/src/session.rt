@@ -1,7 +1,7 @@
-// The session for firmware in C: a struct by value, and one call for a frame. Its contract is that of stepper's frame call.
+// The session for firmware in C: a struct by value, one call for a frame and one for a level file. Their contracts are those of stepper's calls.
 ghost use mathlib.Core.Path.{_≡_};
 ghost use Rattle.stepper.specs.Exchange.{fresh};
-ghost use Rattle.wko.specs.SessionCalls.{exchangeCall};
+ghost use Rattle.wko.specs.SessionCalls.{exchangeCall, loadCall};
 use stepper::session::Session;
 
 // The session after a frame, and 0 or the number of the refusal.
@@ -11,7 +11,14 @@ pub struct Exchanged {
     pub number: u32,
 }
 
-// A session that has not begun.
+// The session after a level file, and 0 or 16.
+#[repr(C)]
+pub struct Loaded {
+    pub session: Session,
+    pub number: u32,
+}
+
+// A session that has not begun, and holds no table.
 #[no_mangle]
 pub extern "C" fn wko_fresh() -> Session
     ensures { λ r. ⌜ r ≡ fresh ⌝ }
@@ -28,6 +35,20 @@ pub extern "C" fn wko_exchange(session: Session, frame: &[u8], answer: &mut [u8]
     let reply = x.reply;
     let next = x.session;
     Exchanged {
+        session: next,
+        number: frames::answer::number(reply) as u32,
+    }
+}
+
+// One level file.
+#[no_mangle]
+pub extern "C" fn wko_load_levels(session: Session, file: &[u8]) -> Loaded
+    ensures { λ r. ⌜ r ≡ loadCall session (now (file .entry)) ⌝ }
+{
+    let x = stepper::load_levels(session, file);
+    let reply = x.reply;
+    let next = x.session;
+    Loaded {
         session: next,
         number: frames::answer::number(reply) as u32,
     }

@@ -4,12 +4,14 @@ use native.Mathlib.Omega.{arith}
 use mathlib.Core.Bool.{true}
 use mathlib.Core.Path.{_≡_, sym, _∙_}
 use Prim.Native.Nat.{_-_, _≤_, _<_}
+use lib.IntN.{pos}
 use lib.ListN.{length, getD}
 use mir.Syntax.{w8, w16}
 use mir.Val.{Fits, SFits}
 use borrow.Author.Tests.{not-true, not-false}
 use Rattle.weak_orders.proofs.Tests.{says-and, says-lt, says-le}
 use Rattle.successors.specs.NextSymbol.{steppable}
+use Rattle.levels.proofs.Sizes.{entry-fits}
 use Rattle.printing.specs.Printing.{onward, over, pageIn, laidOut, nextPage}
 use Rattle.printing.proofs.Written.{counts}
 use Rattle.printing.proofs.Filling.{steps-of, of-steps, onward-sized, onward-left, Filling, filled, filling-none, filling-on}
@@ -39,6 +41,7 @@ held c =
       done = search needs;
       top = omega (arith, t .sfits);
       spacing = search needs;
+      entries = λ d. let h : SFits w16 (getD (c .onward .result .setting .table) d (pos 0)) = search (needs, entry-fits) in omega (arith, h .sfits);
       long = search needs;
       symbols = λ i. let h : Fits w8 (getD (c .onward .result .window) i 0) = search needs in h .fits;
     }

@@ -7,8 +7,8 @@ use mathlib.Core.List.{[], _∷_, _++_}
 use Prim.Native.Nat.{_+_, _^_, _≤_, _<_}
 use lib.ListN.{length, length-append}
 use Rattle.decimals.specs.Text.{decimal}
+use Rattle.decimals.proofs.Digits.{decimal-width}
 use Rattle.printing.specs.Writing.{Wrote}
-use Rattle.printing.proofs.Widths.{decimal-width}
 use Rattle.printing.proofs.Written.{counts, wrote-length, wrote-then, room-front, room-rest}
 use borrow.Author.Needs.{needs}
 use Rattle.printing.proofs.put_opening.Statement.{statement}

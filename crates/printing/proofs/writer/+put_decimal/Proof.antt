@@ -4,8 +4,8 @@ use Prim.Native.Nat.{ℕ, _<_}
 use native.Mathlib.Nat.{mod-lt}
 use native.Mathlib.Omega.{arith}
 use lib.ListN.{length}
-use Rattle.decimals.proofs.Digits.{tenth, decimal-small}
-use Rattle.printing.proofs.Written.{decimal-one, decimal-longer, decimal-then}
+use Rattle.decimals.proofs.Digits.{tenth, decimal-small, decimal-longer}
+use Rattle.printing.proofs.Written.{decimal-one, decimal-then}
 use borrow.Fn.Kinds.{In}
 use borrow.Fn.PlainCycle.{Measures, is, falls, and}
 use Rattle.printing.proofs.writer.put.Reads as put

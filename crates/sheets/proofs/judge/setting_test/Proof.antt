@@ -23,14 +23,20 @@ top-in c = top-fits _ (sym (top-told (c .before)) ∙ not-false (c .before .top-
 spacing-in : (c : tie.Else2) → spacingOk (c .before .before .before .before .args .spacing) ≡ true
 spacing-in c = let t = c .before .spacing-ok in sym (t .ensures) ∙ not-false (t .result) (c .if2 .left)
 
--- what `setting_ok` says of the values before they were narrowed
-judged : (c : tie.After-setting-ok) → let a = c .before .before .before .before .before .args in
-    c .setting-ok .result ≡ settingOk (a .n) (settingOf (a .top) (a .spacing))
-judged c =
+-- the setting, of the values before they were narrowed
+made : (c : tie.After-setting-of) → let a = c .before .before .before .before .before .args in
+    c .setting-of .result ≡ settingOf (a .top) (a .spacing)
+made c =
     let k = c .before .before .before in
     let s = k .before .before in
-    let e = simp (toZ-ofZ (s .fits .top), toZ-ofZ (top-in k), s .pre) at (c .setting-ok .ensures) in
-    e
+    simp (toZ-ofZ (s .fits .top), toZ-ofZ (top-in k)) at (c .setting-of .ensures)
+
+-- what `setting_ok` says of them
+judged : (c : tie.After-setting-ok) → let a = c .before .before .before .before .before .before .args in
+    c .setting-ok .result ≡ settingOk (a .n) (settingOf (a .top) (a .spacing))
+judged c =
+    let s = c .before .before .before .before .before .before in
+    c .setting-ok .ensures ∙ rw (made (c .before), s .pre)
 
 top-ok-requires : tie.Need-top-ok-requires
 top-ok-requires c κs = search needs
@@ -58,15 +64,16 @@ returns-2 c =
     let out = sym (t .spacing-ok .ensures) ∙ not-true (t .spacing-ok .result) (c .before .if2 .taken) in
     c .no-setting2 .ensures ∙ sym (spacing-out (a .n) (a .top) (a .spacing) out)
 
-cast-t7 : tie.Need-cast-t7
-cast-t7 c =
+cast-setting-of : tie.Need-cast-setting-of
+cast-setting-of c =
     let k = c .before .before in
     rw (toZ-ofZ (k .before .before .fits .top)) (top-in k)
 
-cast-t8 : tie.Need-cast-t8
-cast-t8 c =
-    let v = c .before .before .before .before .args .spacing in
-    spacing-fits v (spacing-in c)
+cast-setting-of-2 : tie.Need-cast-setting-of-2
+cast-setting-of-2 c = spacing-fits _ (spacing-in c)
+
+setting-of-requires : tie.Need-setting-of-requires
+setting-of-requires c κs = search needs
 
 setting-ok-requires : tie.Need-setting-ok-requires
 setting-ok-requires c κs = search needs
@@ -77,18 +84,16 @@ no-setting-requires-3 c κs = search needs
 returns-3 : tie.Need-returns-3
 returns-3 c =
     let k = c .before .before in
-    let a = k .before .before .before .before .before .args in
+    let a = k .before .before .before .before .before .before .args in
     let out = sym (judged k) ∙ not-true (k .setting-ok .result) (c .before .if3 .taken) in
     c .no-setting3 .ensures ∙ sym (not-ok (a .n) (a .top) (a .spacing) out)
 
 returns-4 : tie.Need-returns-4
 returns-4 c =
     let k = c .before in
-    let l = k .before .before .before in
-    let s = l .before .before in
-    let a = s .args in
+    let a = k .before .before .before .before .before .before .args in
     let good = sym (judged k) ∙ not-false (k .setting-ok .result) (c .if3 .left) in
-    simp (toZ-ofZ (s .fits .top), toZ-ofZ (top-in l)) (sym (passes (a .n) (a .top) (a .spacing) good))
+    rw (made (k .before)) (sym (passes (a .n) (a .top) (a .spacing) good))
 
 pub setting-test-spec : {M : Type 1} → statement M
 setting-test-spec =
@@ -100,8 +105,9 @@ setting-test-spec =
     spacing-ok-requires
     no-setting-requires-2
     returns-2
-    cast-t7
-    cast-t8
+    cast-setting-of
+    cast-setting-of-2
+    setting-of-requires
     setting-ok-requires
     no-setting-requires-3
     returns-3

@@ -14,6 +14,13 @@ use Rattle.stepper.proofs.handler.begin_frame.Tie as tie
 reserved : (c : tie.Else1) → reservedB (c .before .before .args .f) ≡ true
 reserved c = sym (c .before .reserved-begin .ensures) ∙ not-false _ (c .if1 .left)
 
+-- where the round is known: the test of the reserved bytes before it, and the start
+abbrev tested : tie.After-round-in → tie.Else1
+tested c = c .before .before
+
+abbrev start : tie.After-round-in → tie.Start
+start c = tested c .before .before
+
 reserved-begin-requires : tie.Need-reserved-begin-requires
 reserved-begin-requires c κs = search needs
 
@@ -44,10 +51,10 @@ unfolding accepted
 returns-2 c =
     let judged = c .before .before in
     let round = judged .before in
-    let s = round .before .before .before in
+    let s = start round in
     let is = judged .begin-reply .ensures ∙ ap beginReply (round .round-in .ensures) in
     rw (round .round-in .ensures)
-    (begin-yes (s .args .session) (s .args .f) _ (reserved (round .before)) is (rw (c .enum-told .given .1)))
+    (begin-yes (s .args .session) (s .args .f) _ (reserved (tested round)) is (rw (c .enum-told .given .1)))
 
 returns-3 : tie.Need-returns-3
 unfolding accepted
@@ -55,10 +62,10 @@ returns-3 c =
     let told = c .before .before in
     let judged = told .before .before in
     let round = judged .before in
-    let s = round .before .before .before in
+    let s = start round in
     let e = told .reply .given .1 in
     c .refuse2 .ensures
-    ∙ begin-no (s .args .session) (s .args .f) _ (reserved (round .before))
+    ∙ begin-no (s .args .session) (s .args .f) _ (reserved (tested round))
     (sym e ∙ judged .begin-reply .ensures ∙ ap beginReply (round .round-in .ensures)) refl
 
 pub begin-frame-spec : {M : Type 1} → statement M

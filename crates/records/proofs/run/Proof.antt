@@ -1,14 +1,14 @@
--- `main`: a record a turn, at most a million. Assumes nothing.
-use borrow.Author.Needs.{needs}
+-- `run`: a record a turn, at most a million. Assumes nothing.
 use Prim.Native.Nat.{_≤_, _-_}
-use Rattle.replay.proofs.main.Statement.{statement}
-use Rattle.replay.proofs.main.Tie as tie
+use borrow.Author.Needs.{needs}
+use Rattle.records.proofs.run.Statement.{statement}
+use Rattle.records.proofs.run.Tie as tie
 
 abbrev Inv-loop : tie.InvT-loop
-Inv-loop session₀ records₀ session records = records ≤ 1000000
+Inv-loop name kind session₀ records₀ session records = records ≤ 1000000
 
 abbrev μ-loop : tie.MeasureT-loop
-μ-loop session₀ records₀ session records = 1000000 - records
+μ-loop name kind session₀ records₀ session records = 1000000 - records
 
 fresh-requires : tie.Need-fresh-requires Inv-loop μ-loop
 fresh-requires c κs = search needs
@@ -37,8 +37,8 @@ report-rest-requires c κs = search needs
 returns-2 : tie.Need-returns-2 Inv-loop μ-loop
 returns-2 c = search needs
 
-pub main-spec : {M : Type 1} → statement M
-main-spec =
+pub run-spec : {M : Type 1} → statement M
+run-spec =
     tie.close
     (tie.spec
     Inv-loop

@@ -1,18 +1,21 @@
--- `play`: the parts of the two buffers have the lengths asked for. Assumes nothing.
+-- `play_frame`: the parts of the two buffers have the lengths asked for. Assumes nothing.
 use mathlib.Core.Path.{_≡_, sym}
 use Prim.Native.Nat.{_+_}
 use native.Mathlib.Omega.{arith}
 use lib.ListN.{length}
 use lib.Seq.{length-take-le}
 use borrow.Author.Needs.{needs}
-use Rattle.replay.proofs.play.Statement.{statement}
-use Rattle.replay.proofs.play.Tie as tie
+use Rattle.records.proofs.play_frame.Statement.{statement}
+use Rattle.records.proofs.play_frame.Tie as tie
 
 slice-aggregate-read-part : tie.Need-slice-aggregate-read-part
 slice-aggregate-read-part c = search needs
 
 read-part-requires : tie.Need-read-part-requires
 read-part-requires c κs = search needs
+
+ended-requires : tie.Need-ended-requires
+ended-requires c κs = search needs
 
 returns : tie.Need-returns
 returns c = search needs
@@ -41,8 +44,8 @@ add-end c = search needs
 array-borrow-prefix-frame : tie.Need-array-borrow-prefix-frame
 array-borrow-prefix-frame c = search needs
 
-slice-aggregate-respond : tie.Need-slice-aggregate-respond
-slice-aggregate-respond c =
+slice-aggregate-play-frame-in : tie.Need-slice-aggregate-play-frame-in
+slice-aggregate-play-frame-in c =
     let n = c .before .before .before .wide2 in
     let b = c .before .before .buffer in
     let l : length (b .result) ≡ 4096 = search needs in
@@ -51,15 +54,15 @@ slice-aggregate-respond c =
 array-borrow-prefix-out : tie.Need-array-borrow-prefix-out
 array-borrow-prefix-out c = search needs
 
-slice-aggregate-respond-2 : tie.Need-slice-aggregate-respond-2
-slice-aggregate-respond-2 c =
+slice-aggregate-play-frame-in-2 : tie.Need-slice-aggregate-play-frame-in-2
+slice-aggregate-play-frame-in-2 c =
     let n = c .before .before .before .before .before .wide in
     let b = c .before .before .filled in
     let l : length (b .result) ≡ 256 = search needs in
     sym (length-take-le (1 + n .result) (b .result) (omega (arith, n .ensures)))
 
-respond-requires : tie.Need-respond-requires
-respond-requires c κs =
+play-frame-in-requires : tie.Need-play-frame-in-requires
+play-frame-in-requires c κs =
     let n = c .before .before .before .before .before .wide in
     let b = c .before .before .filled in
     let l : length (b .result) ≡ 256 = search needs in
@@ -68,12 +71,13 @@ respond-requires c κs =
 returns-2 : tie.Need-returns-2
 returns-2 c = search needs
 
-pub play-spec : {M : Type 1} → statement M
-play-spec =
+pub play-frame-spec : {M : Type 1} → statement M
+play-frame-spec =
     tie.close
     (tie.spec
     slice-aggregate-read-part
     read-part-requires
+    ended-requires
     returns
     array-read-wide
     wide-requires
@@ -83,8 +87,8 @@ play-spec =
     filled-requires
     add-end
     array-borrow-prefix-frame
-    slice-aggregate-respond
+    slice-aggregate-play-frame-in
     array-borrow-prefix-out
-    slice-aggregate-respond-2
-    respond-requires
+    slice-aggregate-play-frame-in-2
+    play-frame-in-requires
     returns-2)

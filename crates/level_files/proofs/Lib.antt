@@ -1,0 +1,4 @@
+pub mod LevelTexts
+pub mod LevelLines
+pub mod LevelFiles
+pub mod Worked

@@ -1,0 +1,3 @@
+pub mod LevelFile
+pub mod Held
+pub mod Examples
