@@ -33,7 +33,8 @@ static inline void wko_build_frame(uint8_t frame[WKO_FRAME_LEN], char kind)
     frame[4] = (uint8_t)kind;
 }
 
-/* Begins a round of n symbols under a rule at a start window of n bytes. */
+/* Begins a round of n symbols under a rule at a start window of n bytes. Of the setting it sends top and spacing: with 0 for both the device
+ * takes the level table that it holds. */
 static inline void wko_build_begin(uint8_t frame[WKO_FRAME_LEN], uint8_t n, uint8_t rule, struct wko_setting setting, const uint8_t *start)
 {
     wko_build_frame(frame, 'B');

@@ -18,7 +18,7 @@ use Rattle.stepper.specs.Exchange.{hasBegun, fresh, exchange, withTable,
 use Rattle.stepper.specs.ExactlyOnce.{passes, roundOf, countOf, Request, arrival, Event, question, levelFile, questions, arrivals, next}
 use Rattle.stepper.specs.ExactlyOnce.{answers, InOrder, StepFrames, firsts}
 use Rattle.stepper.specs.Example.{beginning, stepping, asking, lent, sent, replies, ordered, arrived, odd, leftReference, leftRetried}
-use Rattle.stepper.specs.Example.{leftHeights, spaced, coarse, fine, flat, holding, oddHolding, onTable, leftHolding, leftOdd}
+use Rattle.stepper.specs.Example.{leftHeights, spaced, coarse, fine, flat, holding, oddHolding, beginningOnTable, leftHolding, leftOdd}
 use Rattle.stepper.specs.Example.{orderedLoads, arrivedLoads, TableInstance, kept, Tables}
 use Rattle.stepper.specs.Example.{Instance, replyTo, replyLater, Fields, Refusals}
 use Rattle.stepper.proofs.ExactlyOnce.{steps-exactly-once}
@@ -89,21 +89,21 @@ third : Session
 third = next (withTable first fine) (sent (stepping 1) 40)
 
 pub table-instance : TableInstance
-unfolding beginning stepping lent replies coarse fine holding oddHolding onTable leftHolding leftOdd orderedLoads arrivedLoads hasBegun fresh exchange withTable loaded loadLevels passes numberIn roundOf questions next takesTable tableOk first third
+unfolding beginning stepping lent replies coarse fine holding oddHolding beginningOnTable leftHolding leftOdd orderedLoads arrivedLoads hasBegun fresh exchange withTable loaded loadLevels passes numberIn roundOf questions next takesTable tableOk first third
 table-instance = record {
   loads = rw (reads coarse refl);
   accepted-reference = refl;
   accepted-retried = refl;
   replied = ap (λ r. Accepted 2 (pos 1500) ∷ r) (replies-file first (tableText fine) (drop 2 arrivedLoads) (some fine) (reads fine refl)
       ∙ ap (λ r. stateReply ∷ Accepted 2 (pos 1500) ∷ r) (replies-file third [] (drop 4 arrivedLoads) none (reads-none (readTable []) refl)));
-  both = steps-exactly-once holding oddHolding onTable (lent 40) (lent 40) orderedLoads arrivedLoads refl refl refl (λ t. refl)
+  both = steps-exactly-once holding oddHolding beginningOnTable (lent 40) (lent 40) orderedLoads arrivedLoads refl refl refl (λ t. refl)
       (in-order (questions orderedLoads) ((refl, (refl, refl)), ((refl, (refl, refl)), ((refl, (refl, refl)), tt))))
       (step-frames arrivedLoads (refl, (tt, (refl, (tt, (refl, (refl, tt)))))));
   levels = round-levels leftHolding refl;
 }
 
 pub tables : Tables
-unfolding beginning stepping lent coarse fine flat holding onTable leftHolding kept hasBegun fresh exchange withTable
+unfolding beginning stepping lent coarse fine flat holding beginningOnTable leftHolding kept hasBegun fresh exchange withTable
 tables = record {
   none-held = refl;
   bad-held = refl;

@@ -132,14 +132,14 @@ oddHolding =
     record { begun = 9; n = 200; rule = 9; setting = settingOf (pos 0) 0; window = replicate 16 255; done = 77; held = coarse }
 
 -- the begin frame with top 0 and spacing 0, and the sessions that it leaves
-unfoldable pub onTable : List ℕ
-onTable = set (set (set beginning 16 0) 17 0) 18 0
+unfoldable pub beginningOnTable : List ℕ
+beginningOnTable = set (set (set beginning 16 0) 17 0) 18 0
 
 unfoldable pub leftHolding : Session
-leftHolding = exchange holding onTable (lent 40) .0 .session
+leftHolding = exchange holding beginningOnTable (lent 40) .0 .session
 
 unfoldable pub leftOdd : Session
-leftOdd = exchange oddHolding onTable (lent 40) .0 .session
+leftOdd = exchange oddHolding beginningOnTable (lent 40) .0 .session
 
 unfoldable pub orderedLoads : List Event
 orderedLoads = sent (stepping 1) 40 ∷ levelFile (tableText fine) ∷ sent (stepping 2) 40 ∷ sent (stepping 3) 40 ∷ []
@@ -151,11 +151,11 @@ arrivedLoads =
 -- a round on a table: levels come from its copy, whatever is loaded later
 pub record TableInstance : Type 0 where
   pub loads : loadLevels fresh (tableText coarse) ≡ record { session = holding; reply = stateReply }
-  pub accepted-reference : accepted (exchange holding onTable (lent 40) .0 .reply) ≡ true
-  pub accepted-retried : accepted (exchange oddHolding onTable (lent 40) .0 .reply) ≡ true
+  pub accepted-reference : accepted (exchange holding beginningOnTable (lent 40) .0 .reply) ≡ true
+  pub accepted-retried : accepted (exchange oddHolding beginningOnTable (lent 40) .0 .reply) ≡ true
   pub replied : replies leftOdd arrivedLoads
       ≡ Accepted 2 (pos 1500) ∷ stateReply ∷ Accepted 2 (pos 1500) ∷ Refused LevelFile ∷ Accepted 1 (pos 2000) ∷ Accepted 1 (pos 2000) ∷ []
-  pub both : ExactlyOnce onTable holding oddHolding leftHolding leftOdd orderedLoads arrivedLoads
+  pub both : ExactlyOnce beginningOnTable holding oddHolding leftHolding leftOdd orderedLoads arrivedLoads
   pub levels : Levels (leftHolding .rule) (leftHolding .setting) (take (leftHolding .n) (leftHolding .window))
 
 -- a session on a table as a device may have kept it: the round's copy, and the table held
@@ -174,9 +174,9 @@ kept copy held =
 -- what is judged by the table held, and what by the copy
 pub record Tables : Type 0 where
   -- a begin frame is refused where no table is held, where the one held is none, and where the top is not 0
-  pub none-held : exchange fresh onTable (lent 40) .0 .reply ≡ Refused LevelSetting
-  pub bad-held : exchange (kept coarse flat) onTable (lent 40) .0 .reply ≡ Refused LevelSetting
-  pub other-top : exchange holding (set onTable 16 25) (lent 40) .0 .reply ≡ Refused LevelSetting
+  pub none-held : exchange fresh beginningOnTable (lent 40) .0 .reply ≡ Refused LevelSetting
+  pub bad-held : exchange (kept coarse flat) beginningOnTable (lent 40) .0 .reply ≡ Refused LevelSetting
+  pub other-top : exchange holding (set beginningOnTable 16 25) (lent 40) .0 .reply ≡ Refused LevelSetting
   -- a round counts as begun by its copy alone
   pub begun : (hasBegun (kept coarse noTable) ≡ true) × (hasBegun (kept coarse flat) ≡ true) × (hasBegun (kept flat coarse) ≡ false)
   pub by-copy : exchange (kept coarse fine) (stepping 1) (lent 40) .0 .reply ≡ Accepted 2 (pos 1500)

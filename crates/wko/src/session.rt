@@ -47,9 +47,9 @@ pub extern "C" fn wko_load_levels(session: Session, file: &[u8]) -> Loaded
 {
     let x = stepper::load_levels(session, file);
     let reply = x.reply;
-    let next = x.session;
+    let holding = x.session;
     Loaded {
-        session: next,
+        session: holding,
         number: frames::answer::number(reply) as u32,
     }
 }
