@@ -139,7 +139,8 @@ uint32_t wko_fill(uint64_t n, const uint8_t *pattern, size_t pattern_len, uint8_
  *
  * Where top and spacing are both 0 the level is entry d of a table: 16 levels, each a multiple of 25 from -12000 to 2000 and lower than the
  * one before. Any other table counts as none, and then the setting is refused (9). A session holds the table that was loaded last. A begin
- * frame with top and spacing 0 takes a copy of it, and that round goes by its copy, whatever is loaded later.
+ * frame with top and spacing 0 takes a copy of it, and that round goes by its copy, whatever is loaded later: for its levels, and for whether it
+ * counts as begun.
  */
 struct wko_setting {
     int16_t top;               /* the level of the smallest symbol before rounding, in hundredths of a dBm */
@@ -154,7 +155,7 @@ struct wko_session {
     struct wko_setting setting;
     uint8_t window[WKO_MAX_N]; /* the window after the last step, zeros behind its n symbols */
     uint64_t done;             /* steps done since the begin frame */
-    int16_t held[WKO_LEVELS];  /* the table that was loaded last; zeros: none was */
+    int16_t held[WKO_LEVELS];  /* the table that was loaded last; zeros where none was */
 };
 
 struct wko_exchanged {
