@@ -3,8 +3,13 @@
 #include "baseline.h"
 #include <string.h>
 
-/* The least index at which the least rotation of w starts, counted from 0, by two pointers; `sign` is 1 for least, -1 for greatest. */
-static int extreme_rotation(const uint8_t *w, int n, int sign)
+struct rotation {
+    int start, period;
+};
+
+/* The least index at which the least rotation of w starts, counted from 0, by two pointers; `sign` is 1 for least, -1 for greatest. Where the
+ * pointers meet the same rotation they are a period apart. */
+static inline struct rotation extreme(const uint8_t *w, int n, int sign)
 {
     int i = 0, j = 1, k = 0;
     while (i < n && j < n && k < n) {
@@ -22,7 +27,12 @@ static int extreme_rotation(const uint8_t *w, int n, int sign)
             j++;
         k = 0;
     }
-    return i < j ? i : j;
+    return (struct rotation){i < j ? i : j, k < n ? n : i < j ? j - i : i - j};
+}
+
+static int extreme_rotation(const uint8_t *w, int n, int sign)
+{
+    return extreme(w, n, sign).start;
 }
 
 static int is_single(const uint8_t *counts, int v)
@@ -160,17 +170,36 @@ void baseline_walk(int rule, uint8_t *w, int n, uint64_t steps)
     }
 }
 
-uint32_t baseline_next_symbol(uint64_t n, uint64_t rule, const uint8_t *window, size_t window_len)
+/* The tests of a call on a window under a rule: 0, or what is returned. */
+static inline uint32_t refused(uint64_t n, uint64_t rule, const uint8_t *window, size_t window_len)
 {
-    uint8_t w[16];
     if (n < 1 || n > 16)
         return 256 + 6;
     if (rule < 1 || rule > 3)
         return 256 + 7;
-    if (window_len != n || !in_form((int)rule, window, (int)n))
-        return 256 + 8;
+    return window_len != n || !in_form((int)rule, window, (int)n) ? 256 + 8 : 0;
+}
+
+uint32_t baseline_next_symbol(uint64_t n, uint64_t rule, const uint8_t *window, size_t window_len)
+{
+    uint8_t w[16];
+    uint32_t returned = refused(n, rule, window, window_len);
+    if (returned)
+        return returned;
     memcpy(w, window, n);
     return (uint32_t)next_symbol((int)rule, w, (int)n);
+}
+
+uint32_t baseline_rotation_start(uint64_t n, uint64_t rule, const uint8_t *window, size_t window_len)
+{
+    uint32_t returned = refused(n, rule, window, window_len);
+    return returned ? returned : (uint32_t)extreme(window, (int)n, rule == 1 ? 1 : -1).start + 1;
+}
+
+uint32_t baseline_period(uint64_t n, uint64_t rule, const uint8_t *window, size_t window_len)
+{
+    uint32_t returned = refused(n, rule, window, window_len);
+    return returned ? returned : (uint32_t)extreme(window, (int)n, rule == 1 ? 1 : -1).period;
 }
 
 uint32_t baseline_rule1_looking(uint64_t n, uint64_t rule, const uint8_t *window, size_t window_len)

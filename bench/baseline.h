@@ -16,6 +16,10 @@ uint32_t baseline_next_symbol(uint64_t n, uint64_t rule, const uint8_t *window, 
 /* The same for rule 1 alone, by the proved code's way: it looks for a repeat before every 1 first, and then often needs no search. */
 uint32_t baseline_rule1_looking(uint64_t n, uint64_t rule, const uint8_t *window, size_t window_len);
 
+/* What wko_rotation_start and wko_period answer, with the same tests, by the search in O(n). */
+uint32_t baseline_rotation_start(uint64_t n, uint64_t rule, const uint8_t *window, size_t window_len);
+uint32_t baseline_period(uint64_t n, uint64_t rule, const uint8_t *window, size_t window_len);
+
 /* What wko_place and wko_window_at answer, with the same tests, by the library's own algorithm: a recursive count of completions. */
 uint32_t baseline_place(uint64_t n, const uint8_t *window, size_t window_len, uint8_t *out, size_t out_len);
 uint32_t baseline_window_at(uint64_t n, uint64_t place, uint8_t *out, size_t out_len);

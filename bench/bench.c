@@ -35,10 +35,10 @@ static void start_window(int rule, int n, uint8_t *w)
         w[i] = (uint8_t)(rule == 1 ? i + 1 : i);
 }
 
-typedef uint32_t next_symbol_call(uint64_t n, uint64_t rule, const uint8_t *window, size_t window_len);
+typedef uint32_t rule_call(uint64_t n, uint64_t rule, const uint8_t *window, size_t window_len);
 
 /* So many windows on, by a call that tests all it is given. */
-static void call_steps(next_symbol_call *call, int rule, int n, uint8_t *w, uint64_t count)
+static void call_steps(rule_call *call, int rule, int n, uint8_t *w, uint64_t count)
 {
     for (uint64_t k = 0; k < count; k++) {
         uint32_t symbol = call((uint64_t)n, (uint64_t)rule, w, (size_t)n);
@@ -177,6 +177,38 @@ static void places(int n, int count)
            window_ours / window_c, differ ? "   THE ANSWERS DIFFER" : "");
 }
 
+static unsigned sum_of(rule_call *call, uint8_t w[][16], int n, int count)
+{
+    unsigned sum = 0;
+    for (int k = 0; k < count; k++)
+        sum += call((uint64_t)n, 2, w[k], (size_t)n);
+    return sum;
+}
+
+/* Random height windows, and of each where its greatest rotation starts, and its period. */
+static void rotations(int n, int count)
+{
+    static uint8_t w[MOST_PLACES][16];
+    double start_c = 1e9, start_ours = 1e9, period_c = 1e9, period_ours = 1e9;
+    unsigned differ = 0, sum;
+    for (int k = 0; k < count; k++)
+        baseline_window_at((uint64_t)n, random64() % WINDOWS[n], w[k], 16);
+    for (int run = 0; run < RUNS; run++) {
+        double t = now();
+        sum = sum_of(baseline_rotation_start, w, n, count);
+        t = keep_best(&start_c, t);
+        differ += sum != sum_of(wko_rotation_start, w, n, count);
+        t = keep_best(&start_ours, t);
+        sum = sum_of(baseline_period, w, n, count);
+        t = keep_best(&period_c, t);
+        differ += sum != sum_of(wko_period, w, n, count);
+        keep_best(&period_ours, t);
+    }
+    printf("n = %2d   start: C %6.1f ns, wko_rotation_start %6.1f ns (%.2f of C)   period: C %6.1f ns, wko_period %6.1f ns (%.2f of C)%s\n", n,
+           1e9 * start_c / count, 1e9 * start_ours / count, start_ours / start_c, 1e9 * period_c / count, 1e9 * period_ours / count,
+           period_ours / period_c, differ ? "   THE ANSWERS DIFFER" : "");
+}
+
 /* The same random patterns: weak orders with about half of their places opened. */
 static void patterns(int n, int count)
 {
@@ -218,6 +250,9 @@ int main(void)
     printf("\nThe place of a random height window, and the window at a random place.\n");
     for (int n = 8; n <= 16; n += 4)
         places(n, n == 16 ? 500 : 5000);
+    printf("\nWhere the greatest rotation of a random height window starts, and its period.\n");
+    for (int n = 8; n <= 16; n += 4)
+        rotations(n, 5000);
     printf("\nA weak order for a pattern, half of its places open.\n");
     for (int n = 8; n <= 16; n += 4)
         patterns(n, 5000);

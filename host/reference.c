@@ -72,17 +72,36 @@ static int compare_rotations(const uint8_t *w, int n, int i, int j)
     return 0;
 }
 
-static int start(const uint8_t *w, int n)
+/* The least index, from 1, of the least rotation, or of the greatest. */
+static int start(const uint8_t *w, int n, int greatest)
 {
     for (int t = 0; t < n; t++) {
-        int least = 1;
+        int first = 1;
         for (int j = 0; j < n; j++)
-            if (compare_rotations(w, n, j, t) < 0)
-                least = 0;
-        if (least)
+            if (greatest ? compare_rotations(w, n, j, t) > 0 : compare_rotations(w, n, j, t) < 0)
+                first = 0;
+        if (first)
             return t + 1;
     }
     return 0;
+}
+
+int ref_rotation_start(int rule, const uint8_t *w, int n)
+{
+    return start(w, n, rule != 1);
+}
+
+int ref_period(const uint8_t *w, int n)
+{
+    int different = 0;
+    for (int i = 0; i < n; i++) {
+        int fresh = 1;
+        for (int j = 0; j < i; j++)
+            if (compare_rotations(w, n, i, j) == 0)
+                fresh = 0;
+        different += fresh;
+    }
+    return different;
 }
 
 static int single(const uint8_t *w, int n, int v)
@@ -101,7 +120,7 @@ static int rule1(const uint8_t *w, int n)
     if (plain && x == 1)
         return ones;
     if (!plain && x > 1 && num(w, n, x) > 1) {
-        int all = 1, t = start(w, n);
+        int all = 1, t = start(w, n, 0);
         for (int i = 2; i < t; i++)
             if (!single(w, n, w[i - 1]))
                 all = 0;
@@ -117,7 +136,7 @@ static int rule1(const uint8_t *w, int n)
             uint8_t q[16];
             memcpy(q, w, (size_t)n);
             q[0] = (uint8_t)p;
-            int all = 1, t = start(q, n);
+            int all = 1, t = start(q, n, 0);
             for (int i = 2; i < t; i++)
                 if (w[i - 1] == p || !single(w, n, w[i - 1]))
                     all = 0;

@@ -12,6 +12,10 @@ void ref_heights(const uint8_t *w, int n, uint8_t *out);
 void ref_ranks(const uint8_t *w, int n, uint8_t *out);
 int ref_next_symbol(int rule, const uint8_t *w, int n);
 void ref_step(int rule, uint8_t *w, int n);
+/* Document 02, Paper 5: where the least rotation starts, the greatest under rules 2 and 3, from 1; and how many rotations are different. */
+int ref_rotation_start(int rule, const uint8_t *w, int n);
+int ref_period(const uint8_t *w, int n);
+
 uint64_t ref_count(int n);
 uint64_t ref_place(const uint8_t *w, int n);
 void ref_window_at(int n, uint64_t place, uint8_t *out);

@@ -93,9 +93,12 @@ static void random_conversions(long rounds)
     }
 }
 
-static void check_next(uint64_t n, uint64_t rule, const uint8_t *w, size_t len)
+/* The calls on a window under a rule. */
+typedef uint32_t rule_call(uint64_t, uint64_t, const uint8_t *, size_t);
+
+static void check_call(const char *name, rule_call *call, uint64_t n, uint64_t rule, const uint8_t *w, size_t len, int accepted)
 {
-    uint32_t want, got = wko_next_symbol(n, rule, lend(w, len), len);
+    uint32_t want, got = call(n, rule, lend(w, len), len);
     if (n < 1 || n > 16)
         want = 256 + 6;
     else if (rule < 1 || rule > 3)
@@ -103,18 +106,42 @@ static void check_next(uint64_t n, uint64_t rule, const uint8_t *w, size_t len)
     else if (len != n || !ref_in_form((int)rule, w, (int)n))
         want = 256 + 8;
     else
-        want = (uint32_t)ref_next_symbol((int)rule, w, (int)n);
-    CHECK(got == want, "next symbol, n = %llu, rule %llu, length %zu: %u, not %u", (unsigned long long)n,
-          (unsigned long long)rule, len, got, want);
+        want = (uint32_t)accepted;
+    CHECK(got == want, "%s, n = %llu, rule %llu, length %zu: %u, not %u", name, (unsigned long long)n, (unsigned long long)rule, len, got,
+          want);
 }
 
-static void refusals_of_next_symbol(void)
+/* Whether the reference may look at the window. */
+static int good(uint64_t n, uint64_t rule, const uint8_t *w, size_t len)
 {
-    uint8_t w[20] = {0};
-    for (size_t k = 0; k < sizeof lengths / sizeof *lengths; k++)
-        for (size_t r = 0; r < sizeof lengths / sizeof *lengths; r++)
-            for (size_t len = 0; len <= 20; len++)
-                check_next(lengths[k], lengths[r], w, len);
+    return n >= 1 && n <= 16 && rule >= 1 && rule <= 3 && len == n && ref_in_form((int)rule, w, (int)n);
+}
+
+static void check_next(uint64_t n, uint64_t rule, const uint8_t *w, size_t len)
+{
+    int symbol = good(n, rule, w, len) ? ref_next_symbol((int)rule, w, (int)n) : 0;
+    check_call("next symbol", wko_next_symbol, n, rule, w, len, symbol);
+}
+
+static void check_rotation(uint64_t n, uint64_t rule, const uint8_t *w, size_t len)
+{
+    int sound = good(n, rule, w, len);
+    check_call("rotation start", wko_rotation_start, n, rule, w, len, sound ? ref_rotation_start((int)rule, w, (int)n) : 0);
+    check_call("period", wko_period, n, rule, w, len, sound ? ref_period(w, (int)n) : 0);
+}
+
+static void refusals_under_a_rule(void)
+{
+    uint8_t w[20];
+    for (int symbol = 0; symbol <= 1; symbol++) {
+        memset(w, symbol, sizeof w);
+        for (size_t k = 0; k < sizeof lengths / sizeof *lengths; k++)
+            for (size_t r = 0; r < sizeof lengths / sizeof *lengths; r++)
+                for (size_t len = 0; len <= 20; len++) {
+                    check_next(lengths[k], lengths[r], w, len);
+                    check_rotation(lengths[k], lengths[r], w, len);
+                }
+    }
 }
 
 static void to_ranks(uint8_t *w, int n)
@@ -122,6 +149,97 @@ static void to_ranks(uint8_t *w, int n)
     uint8_t r[16];
     ref_ranks(w, n, r);
     memcpy(w, r, (size_t)n);
+}
+
+/* Each window of n, in both forms. */
+static void all_rotations(int n)
+{
+    for (uint64_t k = 0; k < ref_count(n); k++) {
+        uint8_t w[16];
+        ref_window_at(n, k, w);
+        check_rotation((uint64_t)n, 2, w, (size_t)n);
+        check_rotation((uint64_t)n, 3, w, (size_t)n);
+        to_ranks(w, n);
+        check_rotation((uint64_t)n, 1, w, (size_t)n);
+    }
+}
+
+static int random_divisor(int n)
+{
+    int d;
+    do
+        d = 1 + (int)random_below((uint64_t)n);
+    while (n % d != 0);
+    return d;
+}
+
+/* Random weak orders, every second one a block again and again, one in eight with a symbol changed. */
+static void random_rotations(long rounds)
+{
+    for (long k = 0; k < rounds; k++) {
+        int n = 1 + (int)random_below(16), rule = 1 + (int)random_below(3), block = k % 2 ? random_divisor(n) : n;
+        uint8_t w[16];
+        ref_random_heights(random64, block, w);
+        for (int i = block; i < n; i++)
+            w[i] = w[i - block];
+        if (random_below(8) == 0)
+            w[random_below((uint64_t)n)] = (uint8_t)random_below((uint64_t)n);
+        if (rule == 1)
+            to_ranks(w, n);
+        check_rotation((uint64_t)n, (uint64_t)rule, w, (size_t)n);
+    }
+}
+
+/* A window read round from where its rotation starts. */
+static void read_from_start(int rule, int n, const uint8_t *w, uint8_t *read)
+{
+    uint32_t start = wko_rotation_start((uint64_t)n, (uint64_t)rule, w, (size_t)n);
+    for (int i = 0; i < n; i++)
+        read[i] = w[((int)start - 1 + i) % n];
+}
+
+static int on_one_ring(const uint8_t *u, const uint8_t *v, int n)
+{
+    for (int turn = 0; turn < n; turn++) {
+        int same = 1;
+        for (int i = 0; i < n; i++)
+            same &= u[(turn + i) % n] == v[i];
+        if (same)
+            return 1;
+    }
+    return 0;
+}
+
+/* Read from there, two windows are equal just if they lie on one ring; and a ring has as many windows as its period says. For n up to 5. */
+static void rings(int rule, int n)
+{
+    static uint8_t windows[541][16], read[541][16];
+    int count = (int)ref_count(n);
+    for (int k = 0; k < count; k++) {
+        ref_window_at(n, (uint64_t)k, windows[k]);
+        if (rule == 1)
+            to_ranks(windows[k], n);
+        read_from_start(rule, n, windows[k], read[k]);
+    }
+    for (int k = 0; k < count; k++) {
+        uint32_t on_ring = 0, period = wko_period((uint64_t)n, (uint64_t)rule, windows[k], (size_t)n);
+        for (int j = 0; j < count; j++) {
+            int one = on_one_ring(windows[k], windows[j], n);
+            on_ring += (uint32_t)one;
+            CHECK((memcmp(read[k], read[j], (size_t)n) == 0) == one, "windows %d and %d of n = %d on one ring, rule %d", k, j, n, rule);
+        }
+        CHECK(on_ring == period, "the ring of window %d of n = %d, rule %d, has %u windows, not %u", k, n, rule, on_ring, period);
+    }
+}
+
+/* Document 02, Paper 5, and a window whose ends agree though nothing in it repeats. */
+static void worked_rotations(void)
+{
+    const uint8_t pairs[4] = {3, 1, 3, 1}, ones[4] = {1, 1, 1, 1}, border[3] = {1, 3, 1}, heights[4] = {0, 1, 0, 1};
+    CHECK(wko_rotation_start(4, 1, pairs, 4) == 2 && wko_period(4, 1, pairs, 4) == 2, "3131 starts at 2 and has 2 rotations");
+    CHECK(wko_rotation_start(4, 1, ones, 4) == 1 && wko_period(4, 1, ones, 4) == 1, "1111 starts at 1 and has 1 rotation");
+    CHECK(wko_rotation_start(3, 1, border, 3) == 3 && wko_period(3, 1, border, 3) == 3, "131 starts at 3 and has 3 rotations");
+    CHECK(wko_rotation_start(4, 2, heights, 4) == 2 && wko_period(4, 3, heights, 4) == 2, "0101 starts at 2 and has 2 rotations");
 }
 
 /* Random weak orders under each rule, one in four with a symbol changed or of another length. */
@@ -375,7 +493,14 @@ int main(void)
         all_strings(n);
     refusals_of_conversions();
     random_conversions(20000);
-    refusals_of_next_symbol();
+    refusals_under_a_rule();
+    worked_rotations();
+    for (int n = 1; n <= 7; n++)
+        all_rotations(n);
+    for (int rule = 1; rule <= 3; rule++)
+        for (int n = 1; n <= 5; n++)
+            rings(rule, n);
+    random_rotations(300000);
     for (int rule = 1; rule <= 3; rule++)
         for (int n = 1; n <= 7; n++)
             whole_round(rule, n);

@@ -17,7 +17,7 @@
 #include <stddef.h>
 #include <stdint.h>
 
-#define WKO_LIBRARY_VERSION "3.0.0"
+#define WKO_LIBRARY_VERSION "3.1.0"
 #define WKO_MAX_N 16     /* symbols of the longest window */
 #define WKO_FRAME_LEN 40 /* bytes of a frame, and of its answer */
 #define WKO_OPEN 255     /* an open place of a pattern */
@@ -81,7 +81,8 @@ extern "C" {
 #endif
 
 /*
- * Direct calls. Each returns 0 when it is done (wko_next_symbol: the symbol), or 256 + the number of a refusal:
+ * Direct calls. Each returns 0 when it is done (wko_next_symbol: the symbol; wko_rotation_start and wko_period: a number up to n), or 256 +
+ * the number of a refusal:
  *   257 (1)   the buffer is too short
  *   262 (6)   n is not 1 to 16
  *   263 (7)   the rule is not 1, 2 or 3
@@ -98,6 +99,15 @@ extern "C" {
  * Rule 1 takes a window in rank form, rules 2 and 3 take one in height form. A round of a(n) such steps meets each weak order of n
  * once. Returns the symbol, 0 to 16, or a refusal 6, 7, 8. */
 uint32_t wko_next_symbol(uint64_t n, uint64_t rule, const uint8_t *window, size_t window_len);
+
+/* Where a rotation of the window starts, counted from 1: the least rotation in dictionary order under rule 1, the greatest under rules 2 and
+ * 3, and the least index where it starts at several. A ring is all rotations of one window: read round from there, two windows of n in the
+ * rule's form are equal just if they lie on one ring. 3,1,3,1 starts at 2 under rule 1. Returns 1 to n, or a refusal 6, 7, 8. */
+uint32_t wko_rotation_start(uint64_t n, uint64_t rule, const uint8_t *window, size_t window_len);
+
+/* The ring length of the window: how many of its rotations are different, 2 for 3,1,3,1 and 1 for 1,1,1,1. It divides n, and the start is
+ * never past it. The rule says the form of the window only. Returns 1 to n, or a refusal 6, 7, 8. */
+uint32_t wko_period(uint64_t n, uint64_t rule, const uint8_t *window, size_t window_len);
 
 /* From rank form to height form: the height of a place is the number of different smaller symbols in the window.
  * Takes a window in rank form; writes n bytes to the front of out, which has out_len >= n. Refusals 6, 1, 8. */

@@ -8,8 +8,7 @@ use native.Mathlib.Decide.{decLt}
 use lib.ListN.{getD}
 use borrow.Author.Tests.{lt-ltb, le-ltb, not-true}
 use Rattle.weak_orders.specs.Window.{range, occurs, different, bound, height}
-use Rattle.weak_orders.proofs.Lists.{of-range, length-range, getD-range}
-use Rattle.weak_orders.proofs.Rotations.{first-index, first-index-none}
+use Rattle.weak_orders.proofs.Lists.{first-index, first-index-none, of-range, length-range, getD-range}
 use Rattle.weak_orders.proofs.Symbols.{in-occurs, height-gap, added-middle, bound-in, bound-middle, different-below, different≤bound}
 use Rattle.weak_orders.proofs.Symbols.{different-same, different-more}
 use Rattle.weak_orders.proofs.Tests.{there, by-test, bit, false→not-true}

@@ -5,8 +5,7 @@ use mathlib.Core.Bool.{not, cond}
 use mathlib.Core.List.{List, [], _∷_, _++_}
 use Prim.Native.Nat.{ℕ}
 use lib.Dec.{ltb}
-use Rattle.weak_orders.specs.Rotation.{firstIndex}
-use Rattle.weak_orders.specs.Window.{range, occurs, bound}
+use Rattle.weak_orders.specs.Window.{firstIndex, range, occurs, bound}
 use Rattle.filling.specs.Pattern.{isOpen, fixed, openPlaces, missing}
 
 -- the least height that w does not have, of those up to its largest

@@ -8,11 +8,11 @@ use native.Mathlib.Decide.{decLt}
 use lib.Dec.{ltb, eqb}
 use lib.ListN.{length}
 use borrow.Author.Tests.{eqb-true, eq-eqb, lt-ltb, le-ltb}
-use Rattle.weak_orders.specs.Order.{lexLt}
 use Rattle.weak_orders.specs.Window.{occurs, different, below, heights, ranks}
-use Rattle.weak_orders.proofs.Orders.{lexLt-irreflexive, lexLt-asymmetric}
 use Rattle.weak_orders.proofs.Symbols.{says-occurs, occurs-in, below-strict}
 use Rattle.weak_orders.proofs.Tests.{_∈_, here, there, says-as, same-test}
+use Rattle.rotations.specs.Order.{lexLt}
+use Rattle.rotations.proofs.Orders.{lexLt-irreflexive, lexLt-asymmetric}
 use Rattle.ranking.specs.Claims.{CountsAndPlaces}
 use Rattle.ranking.specs.Counts.{L, a}
 use Rattle.ranking.specs.Dictionary.{select, heightWindows, windowAt}

@@ -6,14 +6,14 @@ use Prim.Native.Nat.{ℕ, zero, suc, _+_, _-_, _≤_, _<_}
 use native.Mathlib.Omega.{arith}
 use lib.ListN.{length, getD, take, drop, length-append}
 use lib.Seq.{append-snoc, take-suc, drop-cons, drop-length}
-use Rattle.weak_orders.specs.Order.{lexLt}
 use Rattle.weak_orders.specs.Window.{all, count, isHeight, heights, ranks, bound}
 use Rattle.weak_orders.proofs.Conversions.{ranks-isRank, heights-isHeight, length-ranks, length-heights, ranks-heights, heights-ranks}
 use Rattle.weak_orders.proofs.HeightForm.{height-bound}
 use Rattle.weak_orders.proofs.Lists.{count-cong, count-none}
-use Rattle.weak_orders.proofs.Orders.{lexLt-nil, lexLt-less, lexLt-greater, lexLt-equal, lexLt-irreflexive, lexLt-asymmetric}
 use Rattle.weak_orders.proofs.Symbols.{bound-back}
 use Rattle.weak_orders.proofs.Tests.{_∈_}
+use Rattle.rotations.specs.Order.{lexLt}
+use Rattle.rotations.proofs.Orders.{lexLt-nil, lexLt-less, lexLt-greater, lexLt-equal, lexLt-irreflexive, lexLt-asymmetric}
 use Rattle.ranking.specs.Counts.{sum, a}
 use Rattle.ranking.specs.Dictionary.{strings, heightWindows, completions, place, windowAt}
 use Rattle.ranking.specs.Numbering.{Numbering, HeightWindow, RankWindow}

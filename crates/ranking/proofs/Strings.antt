@@ -2,10 +2,10 @@
 use mathlib.Core.Path.{refl, _∙_}
 use mathlib.Core.List.{List, _∷_, map, flatMap, Memᴰ·of-map, List·Memᴰ·not-nil}
 use Prim.Native.Nat.{ℕ, zero, suc}
-use Rattle.weak_orders.specs.Order.{lexLt}
 use Rattle.weak_orders.specs.Window.{range, isHeight}
 use Rattle.weak_orders.proofs.Lists.{of-range}
-use Rattle.weak_orders.proofs.Orders.{lexLt-less, lexLt-equal}
+use Rattle.rotations.specs.Order.{lexLt}
+use Rattle.rotations.proofs.Orders.{lexLt-less, lexLt-equal}
 use Rattle.ranking.specs.Counts.{a}
 use Rattle.ranking.specs.Dictionary.{strings, heightWindows}
 use Rattle.ranking.proofs.Listing.{of-flatMap, flatMap-range}

@@ -4,8 +4,8 @@ use mathlib.Core.Path.{_≡_}
 use Prim.Native.Nat.{ℕ, _-_, _≤_, _<_}
 use lib.Dec.{ltb}
 use lib.ListN.{length}
-use Rattle.weak_orders.specs.Order.{lexLt}
 use Rattle.weak_orders.specs.Window.{different, bound}
+use Rattle.rotations.specs.Order.{lexLt}
 use Rattle.ranking.specs.Counts.{L, a, waysFrom}
 use Rattle.ranking.specs.Dictionary.{completions, place, windowAt}
 use Rattle.ranking.specs.Numbering.{Numbering, Exactly, HeightWindow, RankWindow}

@@ -5,7 +5,7 @@ use Prim.Native.Nat.{ℕ, zero, suc}
 use lib.Dec.{eqb}
 use lib.ListN.{length, getD}
 use Rattle.weak_orders.specs.Window.{count, range, isHeight}
-use Rattle.weak_orders.specs.Order.{lexLt}
+use Rattle.rotations.specs.Order.{lexLt}
 
 -- the elements that pass the test, in order
 unfoldable pub select : {A : Type 0} → (A → Bool) → List A → List A

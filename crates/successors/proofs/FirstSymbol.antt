@@ -5,7 +5,7 @@ use Prim.Native.Nat.{ℕ, _<_}
 use native.Mathlib.Omega.{arith}
 use lib.ListN.{length}
 use Rattle.weak_orders.specs.Window.{shifted}
-use Rattle.weak_orders.proofs.Rotations.{turn}
+use Rattle.rotations.proofs.Rotations.{turn}
 use Rattle.successors.specs.Rules.{step}
 
 -- A window with its first symbol replaced by a rule's, and then turned, has made a step.

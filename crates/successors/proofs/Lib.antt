@@ -3,8 +3,6 @@ pub mod Singles
 pub mod SetR
 pub mod Rule1
 pub mod Rules23
-pub mod Comparison
-pub mod RotationSearch
 pub mod Scans
 pub mod Windows
 pub mod Tables
@@ -13,4 +11,5 @@ pub mod SetRTests
 pub mod RuleNumbers
 pub mod StepForm
 pub mod Steppable
+pub mod RotationsUnder
 pub mod Claims

@@ -9,7 +9,6 @@ use native.Mathlib.Decide.{decLt, ℕ-discrete}
 use lib.Dec.{eqb}
 use lib.ListN.{length, take, drop}
 use borrow.Author.Tests.{ne-eqb}
-use Rattle.weak_orders.specs.Rotation.{start}
 use Rattle.weak_orders.specs.Says.{Says}
 use Rattle.weak_orders.specs.Window.{num, isRank}
 use Rattle.weak_orders.proofs.Lists.{mem-take}
@@ -18,6 +17,7 @@ use Rattle.weak_orders.proofs.Symbols.{num-same, num-other, num-mem}
 use Rattle.weak_orders.proofs.Tests.{_∈_, here, there, nowhere, split-mem, true?, cond-yes, cond-no, says-as, says-eq, says-lt, says-and}
 use Rattle.weak_orders.proofs.Tests.{says-or, says-not}
 use Rattle.weak_orders.proofs.Tests.{says-all}
+use Rattle.rotations.specs.Rotation.{start}
 use Rattle.successors.specs.Rules.{isPlain, largestBelow, before, case3, case4, rule1}
 use Rattle.successors.proofs.FirstSymbol.{change}
 use Rattle.successors.proofs.Singles.{Single, says-single, Plain, says-plain, Under, under-rise, under-fall, under-once, rank-rise}

@@ -9,11 +9,11 @@ use native.Mathlib.Numerals.{add-one}
 use lib.Dec.{eqb}
 use lib.ListN.{take, drop}
 use borrow.Author.Tests.{lt-ltb, le-ltb, eq-eqb, ne-eqb}
-use Rattle.weak_orders.specs.Rotation.{start}
 use Rattle.weak_orders.specs.Tables.{tally}
 use Rattle.weak_orders.specs.Window.{all, num, isRank}
 use Rattle.weak_orders.proofs.RankForm.{says-rank, rank-positive}
 use Rattle.weak_orders.proofs.Tests.{_∈_}
+use Rattle.rotations.specs.Rotation.{start}
 use Rattle.successors.specs.ByTable.{passesBy, scanBy, Low}
 use Rattle.successors.specs.Rules.{rule1, isPlain, single, before, case3, case4, largestBelow}
 use Rattle.successors.proofs.Tables.{passesBy-single, all-cong}

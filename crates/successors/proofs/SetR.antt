@@ -7,15 +7,15 @@ use native.Mathlib.Omega.{arith}
 use native.Mathlib.Decide.{ℕ-discrete}
 use lib.Dec.{eqb}
 use mathlib.Core.Bool.{true}
-use Rattle.weak_orders.specs.Order.{lexLe}
-use Rattle.weak_orders.specs.Rotation.{isGreatest}
 use Rattle.weak_orders.specs.Says.{Says}
 use Rattle.weak_orders.specs.Window.{all, isHeight}
 use Rattle.weak_orders.proofs.HeightForm.{says-height}
 use Rattle.weak_orders.proofs.Lists.{says-same}
-use Rattle.weak_orders.proofs.Orders.{lex-antisymm, lex-head}
-use Rattle.weak_orders.proofs.Rotations.{_⟳_, turned, ⟳-sym, to-front, says-greatest}
 use Rattle.weak_orders.proofs.Tests.{_∈_, here, there, split-mem, says-itself, says-and, says-not, says-all}
+use Rattle.rotations.specs.Order.{lexLe}
+use Rattle.rotations.specs.Rotation.{isGreatest}
+use Rattle.rotations.proofs.Orders.{lex-antisymm, lex-head}
+use Rattle.rotations.proofs.Rotations.{_⟳_, turned, ⟳-sym, to-front, says-greatest}
 use Rattle.successors.specs.Rules.{inR}
 
 pub says-zeros : (w : List ℕ) → Says (all (eqb 0) w) ((x : ℕ) → x ∈ w → x ≡ 0)

@@ -9,12 +9,12 @@ use native.Mathlib.Numerals.{add-one}
 use lib.Dec.{leb}
 use lib.ListN.{drop}
 use borrow.Author.Tests.{leb-true, le-leb}
-use Rattle.weak_orders.specs.Rotation.{isGreatest}
 use Rattle.weak_orders.specs.Says.{Says}
 use Rattle.weak_orders.specs.Window.{all, range, occurs, isHeight}
 use Rattle.weak_orders.proofs.HeightForm.{says-height}
 use Rattle.weak_orders.proofs.Symbols.{says-occurs}
 use Rattle.weak_orders.proofs.Tests.{_∈_, here, there, split-mem, not-true→false, false→not-true, says-no, says-as, says-all}
+use Rattle.rotations.specs.Rotation.{isGreatest}
 use Rattle.successors.specs.Rules.{inR, inR⁻, rule2, rule3}
 use Rattle.successors.proofs.SetR.{R-height, R-first, R-positive, says-zeros}
 use Rattle.successors.proofs.Scans.{in-drop-range, of-drop-range}

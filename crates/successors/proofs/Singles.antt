@@ -9,9 +9,9 @@ use borrow.Author.Tests.{lt-ltb, le-ltb}
 use Rattle.weak_orders.specs.Says.{Says}
 use Rattle.weak_orders.specs.Window.{num}
 use Rattle.weak_orders.proofs.RankForm.{Rank, rank-gap, rank-one, rank-replace}
-use Rattle.weak_orders.proofs.Rotations.{_⟳_, num-rotated, mem-rotated}
 use Rattle.weak_orders.proofs.Symbols.{num-same, num-other, num-mem, below-less, below-more, below-suc, below-flat}
 use Rattle.weak_orders.proofs.Tests.{_∈_, here, there, nowhere, split-mem, says-eq, says-or, says-all}
+use Rattle.rotations.proofs.Rotations.{_⟳_, num-rotated, mem-rotated}
 use Rattle.successors.specs.Rules.{single, isPlain, largestBelow}
 
 -- A symbol is single if it is 1 or occurs once; a window is plain if all its symbols are.

@@ -7,9 +7,9 @@ use native.Mathlib.Omega.{arith}
 use native.Mathlib.Decide.{ℕ-discrete}
 use lib.ListN.{length}
 use Rattle.weak_orders.specs.Window.{isRank, isHeight, shifted}
-use Rattle.weak_orders.proofs.HeightForm.{height-rotated}
-use Rattle.weak_orders.proofs.RankForm.{says-rank, rank-rotated}
-use Rattle.weak_orders.proofs.Rotations.{turned, length-rotated}
+use Rattle.weak_orders.proofs.RankForm.{says-rank}
+use Rattle.rotations.proofs.Forms.{rank-rotated, height-rotated}
+use Rattle.rotations.proofs.Rotations.{turned, length-rotated}
 use Rattle.successors.specs.Rules.{rule1, rule2, rule3, ruleOf, inForm, step}
 use Rattle.successors.proofs.FirstSymbol.{change, turn-change, length-change}
 use Rattle.successors.proofs.Rule1.{rank-change}

@@ -1,15 +1,15 @@
 -- What it says that a window can be stepped, and that it is accepted. Assumes nothing.
 use mathlib.Core.Bool.{true, cond, not, _&&_}
 use mathlib.Core.List.{List}
-use mathlib.Core.Path.{_≡_, refl}
+use mathlib.Core.Path.{_≡_, refl, sym, _∙_}
 use Prim.Native.Nat.{ℕ, _≤_}
 use native.Mathlib.Omega.{arith}
-use lib.Dec.{eqb}
+use lib.Dec.{ltb, eqb}
 use lib.ListN.{length, take}
 use lib.Seq.{length-take-le}
-use borrow.Author.Tests.{eq-eqb}
+use borrow.Author.Tests.{eq-eqb, ltb-false}
 use Rattle.refusals.specs.declared.Cause.{Cause}
-use Rattle.refusals.specs.declared.Cause.the-variants.{RuleNumber}
+use Rattle.refusals.specs.declared.Cause.the-variants.{WindowLength, RuleNumber}
 use Rattle.refusals.specs.declared.Verdict.{Verdict}
 use Rattle.refusals.specs.declared.Verdict.the-variants.{Accepted, Refused}
 use Rattle.weak_orders.specs.Says.{Says}
@@ -21,7 +21,7 @@ use Rattle.weak_orders.proofs.Tests.{_∈_, by-test, says-no, says-and, says-it
 use Rattle.successors.specs.NextSymbol.{steppable, stepOrStay, judged, symbolBy, nextSymbol}
 use Rattle.successors.specs.declared.Next.the-variants.{Symbol, Refused as NoSymbol}
 use Rattle.successors.specs.Rules.{ruleOf, inForm, isRule, step}
-use Rattle.successors.proofs.RuleNumbers.{form-bound}
+use Rattle.successors.proofs.RuleNumbers.{form-bound, says-rule}
 
 -- each of the three tests passes
 abbrev pub Steppable : ℕ → ℕ → List ℕ → Type 0
@@ -72,15 +72,31 @@ judged-loaded rule n s = rw (by-form rule n (take n (loaded n s)), by-form rule 
     low : (w : List ℕ) (x : ℕ) → length w ≡ 16 → n ≤ 16 → inForm rule (take n w) ≡ true → x ∈ take n w → x ≤ 16
     low w x l le t m = omega (arith, form-bound rule (take n w) t x m, length-take-le n w (omega arith))
 
--- and gets the symbol of its own window
-pub loaded-symbol : (rule n : ℕ) (s : List ℕ) → nextSymbol rule n (take n (loaded n s)) ≡ nextSymbol rule n s
-unfolding nextSymbol symbolBy
-loaded-symbol rule n s = by-loaded (judged rule n) (λ v u. symbolBy v (ruleOf rule u)) n s (judged-loaded rule n s) whole-slice (λ c u v. refl)
-  where
-    whole-slice : judged rule n s ≡ Accepted → (n ≤ 16) × (length s ≡ n)
-    whole-slice e = by-test (isLength n && not (isRule rule))
-        (λ t. absurd (refused (rw (by-form rule n s, t) at e)))
-        (λ t. judged-whole (inForm rule) n s (rw (by-form rule n s, t) at e))
+-- an accepted window is n long
+pub judged-length : (rule n : ℕ) (s : List ℕ) → judged rule n s ≡ Accepted → (n ≤ 16) × (length s ≡ n)
+judged-length rule n s e = by-test (isLength n && not (isRule rule))
+    (λ t. absurd (refused (rw (by-form rule n s, t) at e)))
+    (λ t. judged-whole (inForm rule) n s (rw (by-form rule n s, t) at e))
+
+-- an answer by the verdict, which a refusal gives whatever the rule and the window are, is the slice's own; and a rule that does not fit
+-- a byte may be taken for 0, which is no rule either
+module _ {A : Type 0} (answer : ℕ → Verdict → List ℕ → A)
+    (refusal : (c : Cause) (r q : ℕ) (u v : List ℕ) → answer r (Refused c) u ≡ answer q (Refused c) v) (rule n : ℕ) (s : List ℕ) where
+  loaded-answer : (r : ℕ) → answer r (judged r n (take n (loaded n s))) (take n (loaded n s)) ≡ answer r (judged r n s) s
+  loaded-answer r = by-loaded (judged r n) (answer r) n s (judged-loaded r n s) (judged-length r n s) (λ c u v. refusal c r r u v)
+
+  no-rule : (r : ℕ) → ¬ ((1 ≤ r) × (r ≤ 3)) → answer r (judged r n s) s ≡ answer 0 (cond (isLength n) (Refused RuleNumber) (Refused WindowLength)) s
+  unfolding judged
+  no-rule r h = by-test (isLength n)
+      (λ a. rw (a, says-no (says-rule r) h) (refusal RuleNumber r 0 s s))
+      (λ a. rw a (refusal WindowLength r 0 s s))
+
+  pub slice-answer :
+      let r = cond (ltb rule 256) rule 0 in
+      answer r (judged r n (take n (loaded n s))) (take n (loaded n s)) ≡ answer rule (judged rule n s) s
+  slice-answer = loaded-answer (cond (ltb rule 256) rule 0) ∙ by-test (ltb rule 256)
+      (λ t. rw t)
+      (λ t. rw t (no-rule 0 (λ (l, h). omega arith) ∙ sym (no-rule rule (λ (l, h). omega (arith, ltb-false rule 256 t)))))
 
 -- a symbol is answered just for an accepted window, and is the rule's
 module _ (rule n : ℕ) (u : List ℕ) where

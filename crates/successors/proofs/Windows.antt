@@ -5,13 +5,13 @@ use Prim.Native.Nat.{ℕ, zero, suc, _-_, _≤_, _<_}
 use native.Mathlib.Omega.{arith}
 use lib.ListN.{length, take, drop, getD, set, take-append-drop}
 use lib.Seq.{length-take-le, take-take, drop-cons, getD-take}
-use Rattle.weak_orders.specs.Rotation.{start, rotation}
 use Rattle.weak_orders.proofs.Lists.{mem-take, getD-in}
-use Rattle.weak_orders.proofs.Orders.{lex-head}
 use Rattle.weak_orders.proofs.Parts.{window-front, window-set}
 use Rattle.weak_orders.proofs.RankForm.{Rank, rank-one, rank-positive}
-use Rattle.weak_orders.proofs.Rotations.{start-first, to-front}
 use Rattle.weak_orders.proofs.Tests.{_∈_, here}
+use Rattle.rotations.specs.Rotation.{start, rotation}
+use Rattle.rotations.proofs.Orders.{lex-head}
+use Rattle.rotations.proofs.Rotations.{start-first, to-front}
 use Rattle.successors.specs.ByTable.{Low}
 use Rattle.successors.specs.Rules.{before}
 

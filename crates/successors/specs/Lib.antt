@@ -1,4 +1,5 @@
 pub mod Rules
 pub mod ByTable
 pub mod NextSymbol
+pub mod RotationUnder
 pub mod Claims

@@ -6,7 +6,7 @@ use Prim.Native.Nat.{ℕ, zero, suc, _+_, _-_}
 use lib.Dec.{leb, ltb, eqb}
 use lib.ListN.{length, take, drop}
 use Rattle.weak_orders.specs.Window.{all, num, isRank, isHeight, shifted}
-use Rattle.weak_orders.specs.Rotation.{start, isGreatest}
+use Rattle.rotations.specs.Rotation.{start, isGreatest}
 
 -- "is 1 or occurs once in w", of document 01's cases 3 and 4
 unfoldable pub single : List ℕ → ℕ → Bool

@@ -1,5 +1,5 @@
 // Rules 2 and 3, on windows in height form.
-use crate::rotations::is_greatest;
+use rotations::Standing;
 ghost use mathlib.Core.Bool.{true};
 ghost use mathlib.Core.List.{_∷_};
 ghost use mathlib.Core.Path.{_≡_};
@@ -72,7 +72,11 @@ fn in_r(w: [u8; 16], n: usize, x: u8) -> bool
     }
     let mut v = w;
     v[0] = x;
-    is_greatest(v, n)
+    let standing = rotations::own_standing(v, n);
+    match standing {
+        Standing::Greatest { period: _ } => true,
+        Standing::Behind => false,
+    }
 }
 
 // The symbol that follows a window by rule 2. Where a symbol behind is larger than w1 + 1, no first symbol up to w1 + 1 puts the

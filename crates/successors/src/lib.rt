@@ -1,21 +1,22 @@
-// The three successor rules of 002: the symbol that follows a window, and one step.
-// Rests on weak_orders for windows, their forms and their tables of counts, and on refusals for causes. That the steps of a rule go through every weak order once
-// is shown in universal_cycle; this crate knows no session.
+// The three successor rules of 002: the symbol that follows a window, and one step; and the rotation that a rule compares with.
+// Rests on weak_orders for windows, their forms and their tables of counts, on rotations for the least and the greatest one, and on refusals for
+// causes. That the steps of a rule go through every weak order once is shown in universal_cycle; this crate knows no session.
 // A window passes by value, as an array of 16 with n beside.
 mod height_rules;
 mod rank_rule;
-mod rotations;
 
 use height_rules::successor2;
 use height_rules::successor3;
 use rank_rule::next_in_ranks;
 use refusals::Cause;
 use refusals::Verdict;
+use rotations::Rotation;
 ghost use mathlib.Core.Bool.{_&&_};
 ghost use mathlib.Core.Path.{_≡_};
 ghost use lib.ListN.{take};
 ghost use Rattle.weak_orders.specs.Window.{isLength};
 ghost use Rattle.successors.specs.NextSymbol.{steppable, judged, nextSymbol, stepOrStay};
+ghost use Rattle.successors.specs.RotationUnder.{rotationAnswer};
 ghost use Rattle.successors.specs.Rules.{inForm, isRule};
 
 // The first n symbols are a weak order of n in the rule's form: ranks for rule 1, heights for the others.
@@ -90,5 +91,27 @@ pub fn step(rule: u8, w: [u8; 16], n: usize) -> [u8; 16]
     match next {
         Next::Symbol(s) => weak_orders::shift(w, n, s),
         Next::Refused(_) => w,
+    }
+}
+
+// The rotation that a rule compares with, or why there is none.
+pub enum RotationAnswer {
+    Found(Rotation),
+    Refused(Cause),
+}
+
+// Where the least rotation starts under rule 1, the greatest under rules 2 and 3, with the period of the window.
+pub fn rotation_under(rule: u8, w: [u8; 16], n: usize) -> RotationAnswer
+    ensures { λ r. ⌜ r ≡ rotationAnswer rule n (take n w) ⌝ }
+{
+    let verdict = judge(rule, w, n);
+    match verdict {
+        Verdict::Accepted => {
+            if rule == 1 {
+                return RotationAnswer::Found(rotations::least_rotation(w, n));
+            }
+            RotationAnswer::Found(rotations::greatest_rotation(w, n))
+        }
+        Verdict::Refused(cause) => RotationAnswer::Refused(cause),
     }
 }

@@ -1,16 +1,15 @@
 // Rule 1, on windows in rank form. The table of counts is filled once a window, by `next_in_ranks`, which tests the form by it and hands it on
 // as t. Every other function here reads t, and none counts again.
 use crate::Next;
-use crate::rotations::least_rotation;
 use refusals::Verdict;
 ghost use mathlib.Core.Bool.{true};
 ghost use mathlib.Core.List.{_∷_};
 ghost use mathlib.Core.Path.{_≡_};
 ghost use Prim.Native.Nat.{_≤_, _<_};
 ghost use lib.ListN.{take, drop, getD};
-ghost use Rattle.weak_orders.specs.Rotation.{start};
 ghost use Rattle.weak_orders.specs.Tables.{tally};
 ghost use Rattle.weak_orders.specs.Window.{all, isRank};
+ghost use Rattle.rotations.specs.Rotation.{start};
 ghost use Rattle.successors.specs.ByTable.{passesBy, scanBy, largestBy, Low, RepeatBeforeOne};
 ghost use Rattle.successors.specs.NextSymbol.{nextSymbol};
 ghost use Rattle.successors.specs.Rules.{isPlain, largestBelow, case3, case4, rule1};
@@ -61,7 +60,7 @@ fn single_before_start(w: [u8; 16], n: usize, t: [u8; 18], x: u8, p: usize) -> b
     }
     let mut v = w;
     v[0] = x;
-    let least = least_rotation(v, n);
+    let least = rotations::least_rotation(v, n);
     all_single(w, t, p, 1, least.start - 1)
 }
 

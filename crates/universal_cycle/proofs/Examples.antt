@@ -3,7 +3,7 @@ use mathlib.Core.List.{[], _∷_}
 use mathlib.Core.Path.{refl}
 use native.Mathlib.Omega.{arith}
 use Rattle.weak_orders.specs.Window.{isRank, heights}
-use Rattle.weak_orders.specs.Rotation.{start}
+use Rattle.rotations.specs.Rotation.{start}
 use Rattle.ranking.specs.Counts.{a}
 use Rattle.ranking.specs.Dictionary.{place}
 use Rattle.successors.specs.Rules.{rule1, rule2, rule3, ruleOf, inForm, WeakOrder, isRule, step}

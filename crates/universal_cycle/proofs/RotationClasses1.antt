@@ -7,18 +7,19 @@ use native.Mathlib.Omega.{arith}
 use lib.Seq.{take-append-le}
 use lib.ListN.{length, length-append, take, drop, take-append-drop, replicate, length-replicate}
 use mathlib.Core.Bool.{true}
-use Rattle.weak_orders.specs.Order.{lexLe}
-use Rattle.weak_orders.specs.Rotation.{rotation, start}
 use Rattle.weak_orders.specs.Window.{num, isRank}
 use Rattle.weak_orders.proofs.Iterates.{stay, _⨟_}
 use Rattle.weak_orders.proofs.Lists.{mem-replicate, mem-take, says-same, all-same, total, total-le, last-fail, last-unique}
-use Rattle.weak_orders.proofs.Orders.{lex-antisymm, lex-head}
-use Rattle.weak_orders.proofs.RankForm.{Rank, says-rank, rank-rotated, rank-positive, rank-next, rank-one}
-use Rattle.weak_orders.proofs.Rotations.{round, turn, _⟳_, turned, swing, ⟳-sym, front-once, length-rotated, num-rotated, total-rotated, mem-rotated}
-use Rattle.weak_orders.proofs.Rotations.{to-front, rotation-split}
-use Rattle.weak_orders.proofs.Rotations.{least, Start, start-first}
+use Rattle.weak_orders.proofs.RankForm.{Rank, says-rank, rank-positive, rank-next, rank-one}
 use Rattle.weak_orders.proofs.Symbols.{num-mem, below-zero, below-flat}
 use Rattle.weak_orders.proofs.Tests.{_∈_, here, nowhere, true?, says?, says-all}
+use Rattle.rotations.specs.Order.{lexLe}
+use Rattle.rotations.specs.Rotation.{rotation, start}
+use Rattle.rotations.proofs.Orders.{lex-antisymm, lex-head}
+use Rattle.rotations.proofs.Forms.{rank-rotated}
+use Rattle.rotations.proofs.Rotations.{round, turn, _⟳_, turned, swing, ⟳-sym, front-once, length-rotated, num-rotated, total-rotated, mem-rotated}
+use Rattle.rotations.proofs.Rotations.{to-front, rotation-split}
+use Rattle.rotations.proofs.Rotations.{least, Start, start-first}
 use Rattle.successors.specs.Rules.{before, rule1}
 use Rattle.successors.proofs.FirstSymbol.{change}
 use Rattle.successors.proofs.Rule1.{Case1, Case3, exit1, Exit1, says-exit1, weight, weight-le, case1-under, exit-partner, other-partner}

@@ -6,13 +6,14 @@ use Prim.Native.Nat.{ℕ, suc, _*_, _<_}
 use native.Mathlib.Omega.{arith}
 use lib.ListN.{length, replicate, length-replicate}
 use mathlib.Core.Bool.{true}
-use Rattle.weak_orders.specs.Order.{lexLe}
 use Rattle.weak_orders.specs.Window.{isHeight}
-use Rattle.weak_orders.proofs.HeightForm.{says-height, height-rotated, height-below}
+use Rattle.weak_orders.proofs.HeightForm.{says-height, height-below}
 use Rattle.weak_orders.proofs.Iterates.{stay, _⨟_}
 use Rattle.weak_orders.proofs.Lists.{mem-replicate, all-same, total, total-le}
-use Rattle.weak_orders.proofs.Rotations.{round, turn, _⟳_, turned, ⟳-sym, length-rotated, total-rotated, mem-rotated, greatest}
 use Rattle.weak_orders.proofs.Tests.{true?, says?}
+use Rattle.rotations.specs.Order.{lexLe}
+use Rattle.rotations.proofs.Forms.{height-rotated}
+use Rattle.rotations.proofs.Rotations.{round, turn, _⟳_, turned, ⟳-sym, length-rotated, total-rotated, mem-rotated, greatest}
 use Rattle.successors.specs.Rules.{inR, rule2, rule3}
 use Rattle.successors.proofs.FirstSymbol.{change}
 use Rattle.successors.proofs.Rules23.{Spot, out, low₂, high₂, low₃, mid₃, high₃, spot, Cycle, Moves, moves2, moves3, height-change}

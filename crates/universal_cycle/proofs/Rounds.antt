@@ -9,8 +9,8 @@ use native.Mathlib.Decide.{ℕ-discrete}
 use lib.Dec.{leb}
 use mathlib.Core.Bool.{true}
 use borrow.Author.Tests.{leb-true}
-use Rattle.weak_orders.proofs.Rotations.{turn}
 use Rattle.weak_orders.proofs.Tests.{says-itself, says-and}
+use Rattle.rotations.proofs.Rotations.{turn}
 use Rattle.ranking.specs.Counts.{a}
 use Rattle.ranking.specs.Numbering.{Numbering}
 use Rattle.ranking.proofs.Places.{heights-numbered, ranks-numbered}

@@ -4,7 +4,7 @@ use mathlib.Core.List.{List, [], _∷_, map}
 use mathlib.Core.Path.{_≡_}
 use Prim.Native.Nat.{ℕ, suc}
 use Rattle.weak_orders.specs.Window.{range, iter, isRank, heights}
-use Rattle.weak_orders.specs.Rotation.{start}
+use Rattle.rotations.specs.Rotation.{start}
 use Rattle.ranking.specs.Counts.{a}
 use Rattle.ranking.specs.Dictionary.{place}
 use Rattle.successors.specs.Rules.{rule1, rule2, rule3, ruleOf, step}

@@ -6,11 +6,9 @@ use Prim.Native.Nat.{ℕ, _≤_, _<_}
 use native.Mathlib.Omega.{arith}
 use native.Mathlib.Decide.{decLt}
 use lib.ListN.{length}
-use Rattle.weak_orders.specs.Rotation.{rotation}
 use Rattle.weak_orders.specs.Says.{Says}
 use Rattle.weak_orders.specs.Window.{different, isHeight, bound}
 use Rattle.weak_orders.proofs.Lists.{says-below}
-use Rattle.weak_orders.proofs.Rotations.{_⟳_, ⟳-sym, mem-rotated, turned-rotation}
 use Rattle.weak_orders.proofs.Symbols.{says-occurs, occurs-in, in-occurs, height-full, full-height, bound-in, bound-find}
 use Rattle.weak_orders.proofs.Symbols.{different-below, different≤length}
 use Rattle.weak_orders.proofs.Tests.{_∈_, says-all}
@@ -22,13 +20,6 @@ Height w = (x : ℕ) → x ∈ w → (y : ℕ) → y < x → y ∈ w
 pub says-height : (w : List ℕ) → Says (isHeight w) (Height w)
 unfolding isHeight
 says-height w = says-all (λ x. says-below (says-occurs w) x) w
-
-pub height-rotated : {w v : List ℕ} → w ⟳ v → isHeight w ≡ true → isHeight v ≡ true
-height-rotated {w} {v} c t = says-height v .of (λ x m y lt. mem-rotated (⟳-sym c) y (says-height w .to t x (mem-rotated c x m) y lt))
-
--- so height form is closed under rotation
-pub height-rotation : (w : List ℕ) (i : ℕ) → isHeight w ≡ true → isHeight (rotation w i) ≡ true
-height-rotation w i = height-rotated (turned-rotation w i)
 
 -- a window is in height form just where it holds as many different symbols as its largest allows
 pub height-form : (w : List ℕ) → isHeight w ≡ true → different w ≡ bound w

@@ -1,9 +1,7 @@
 pub mod Tests
 pub mod Lists
 pub mod Symbols
-pub mod Orders
 pub mod Iterates
-pub mod Rotations
 pub mod RankForm
 pub mod HeightForm
 pub mod Conversions

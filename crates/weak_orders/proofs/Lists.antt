@@ -1,4 +1,4 @@
--- Laws of lists: members, `all`, `count`, `range`, sums over a list, the last element that fails a test. Assumes nothing.
+-- Laws of lists: members, `all`, `count`, `range`, sums over a list, the first element that passes a test and the last element that fails a test. Assumes nothing.
 use mathlib.Core.Bool.{Bool, true, false, _&&_}
 use mathlib.Core.List.{List, [], _∷_, _++_, map, List·Memᴰ·head as head, List·Memᴰ·tail as tail, Memᴰ·append-left, Memᴰ·append-right}
 use mathlib.Core.List.{List·Memᴰ·append-cases, List·Memᴰ·eq-of-singleton, head-eq-of-cons-eq, tail-eq-of-cons-eq}
@@ -13,9 +13,9 @@ use lib.Dec.{eqb}
 use lib.ListN.{length, getD, take, drop, take-append-drop, drop-of-length-le, replicate, length-append, List·getD-append}
 use lib.Seq.{drop-cons, getD-at}
 use Rattle.weak_orders.specs.Says.{Says}
-use Rattle.weak_orders.specs.Window.{all, count, range}
-use Rattle.weak_orders.proofs.Tests.{_∈_, here, there, nowhere, split-mem, by-test, bit, bit≤1, says?, says-as, says-itself}
-use Rattle.weak_orders.proofs.Tests.{says-eq, says-all}
+use Rattle.weak_orders.specs.Window.{all, count, firstIndex, range}
+use Rattle.weak_orders.proofs.Tests.{_∈_, here, there, nowhere, split-mem, by-test, true?, not-true→false, bit, bit≤1, says?, says-as}
+use Rattle.weak_orders.proofs.Tests.{says-itself, says-eq, says-all}
 
 -- ---- members
 
@@ -131,6 +131,24 @@ module _ {A : Type 0} (p : A → Bool) where
       (λ e. (x, here, e))
       (λ e. let (y, m, t) = count-find xs (rw e at h) in (y, there m, t))
 
+-- ---- the first element that passes a test
+
+pub first-index : {A : Type 0} (f : A → Bool) (l : List A) (d : A) (j : ℕ) → j < length l → f (getD l j d) ≡ true →
+    (firstIndex f l ≤ j) × (f (getD l (firstIndex f l) d) ≡ true)
+unfolding firstIndex
+first-index f [] d j lt t = absurd (omega arith)
+first-index f (x ∷ l) d zero lt t = rw (t) (omega arith, t)
+first-index f (x ∷ l) d (suc j) lt t = elim (true? (f x)) [
+  | yes h ↦ rw (h) (omega arith, h)
+  | no h ↦ rw (not-true→false (f x) h) (let (le, t′) = first-index f l d j (omega arith) t in (omega arith, t′))
+]
+
+-- where no element passes the test it is the length
+pub first-index-none : {A : Type 0} (f : A → Bool) (l : List A) → ((x : A) → x ∈ l → f x ≡ false) → firstIndex f l ≡ length l
+unfolding firstIndex
+first-index-none f [] h = refl
+first-index-none f (x ∷ l) h = rw (h x here) (ap suc (first-index-none f l (λ y m. h y (there m))))
+
 -- ---- `range`
 
 pub in-range : (n v : ℕ) → v < n → v ∈ range n
@@ -168,6 +186,20 @@ getD-map-range f n j lt = getD-map f (range n) j (omega (arith, length-range n))
 pub count-range : (p : ℕ → Bool) (n : ℕ) → count p (range (suc n)) ≡ count p (range n) + bit (p n)
 unfolding range
 count-range p n = omega (arith, count-append p (range n) (n ∷ []), count-cons p n [], count-nil p)
+
+-- a test that the numbers below d pass, and none from d on
+pub count-below : (p : ℕ → Bool) (d n : ℕ) → d ≤ n → ((i : ℕ) → i < d → p i ≡ true) → ((i : ℕ) → d ≤ i → i < n → p i ≡ false) →
+    count p (range n) ≡ d
+unfolding range count
+count-below p d zero le pass fail = omega arith
+count-below p d (suc n) le pass fail = elim (decLt d (suc n)) [
+  | yes lt ↦
+      let none : bit (p n) ≡ 0 = rw (fail n (omega arith) (omega arith)) in
+      omega (arith, count-range p n, count-below p d n (omega arith) pass (λ i l l′. fail i l (omega arith)))
+  | no ge ↦
+      let one : bit (p n) ≡ 1 = rw (pass n (omega arith)) in
+      omega (arith, count-range p n, count-below p n n (omega arith) (λ i l. pass i (omega arith)) (λ i l l′. absurd (omega arith)))
+]
 
 pub says-below : {p : ℕ → Bool} {A : ℕ → Type 0} → ((x : ℕ) → Says (p x) (A x)) → (n : ℕ) →
     Says (all p (range n)) ((x : ℕ) → x < n → A x)

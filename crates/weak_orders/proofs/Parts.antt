@@ -17,6 +17,10 @@ take-capped w n m e = elim (decLe n m) [
   | no l ↦ let q : min n m ≡ m = omega arith in rw q (take-all m w (omega arith) ∙ sym (take-all n w (omega arith)))
 ]
 
+-- so what is looked at of an array is all that n asks for
+pub capped-window : (w : List ℕ) (n m e : ℕ) → length w ≡ m → e ≡ min n m → (length (take e w) ≡ e) × (take e w ≡ take n w)
+capped-window w n m e l c = (length-take-le e w (omega arith), rw c (take-capped w n m l))
+
 module _ (w : List ℕ) (a n : ℕ) (le : n ≤ length w) where
   pub part-length : length (drop a (take n w)) ≡ n - a
   part-length = length-drop a (take n w) ∙ ap (λ (m : ℕ). m - a) (length-take-le n w le)

@@ -1,5 +1,4 @@
 -- Windows in rank form. Assumes nothing.
-use mathlib.Core.Bool.{true}
 use mathlib.Core.List.{List, _∷_, Memᴰ·cast}
 use mathlib.Core.Logic.{_↔_}
 use mathlib.Core.Path.{_≡_}
@@ -7,10 +6,8 @@ use Prim.Native.Nat.{ℕ, suc, _+_, _≤_, _<_}
 use native.Mathlib.Omega.{arith}
 use native.Mathlib.Decide.{decLt}
 use lib.ListN.{length}
-use Rattle.weak_orders.specs.Rotation.{rotation}
 use Rattle.weak_orders.specs.Says.{Says}
 use Rattle.weak_orders.specs.Window.{num, below, isRank}
-use Rattle.weak_orders.proofs.Rotations.{_⟳_, below-rotated, mem-rotated, turned-rotation}
 use Rattle.weak_orders.proofs.Symbols.{num-mem, below-less, below-more, below-le-length, below-suc, below-zero, below-mono}
 use Rattle.weak_orders.proofs.Symbols.{below-flat, least-from}
 use Rattle.weak_orders.proofs.Tests.{_∈_, there, split-mem, says-eq, says-all}
@@ -22,13 +19,6 @@ Rank w = (v : ℕ) → v ∈ w → v ≡ suc (below w v)
 pub says-rank : (w : List ℕ) → Says (isRank w) (Rank w)
 unfolding isRank
 says-rank w = says-all (λ v. says-eq v (suc (below w v))) w
-
-pub rank-rotated : {w v : List ℕ} → w ⟳ v → Rank w → Rank v
-rank-rotated c h x m = omega (arith, h x (mem-rotated c x m), below-rotated c x)
-
--- so rank form is closed under rotation
-pub rank-rotation : (w : List ℕ) (i : ℕ) → isRank w ≡ true → isRank (rotation w i) ≡ true
-rank-rotation w i h = says-rank (rotation w i) .of (rank-rotated (turned-rotation w i) (says-rank w .to h))
 
 pub rank-positive : (w : List ℕ) → Rank w → (x : ℕ) → x ∈ w → 0 < x
 rank-positive w h x m = omega (arith, h x m)

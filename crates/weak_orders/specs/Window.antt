@@ -15,6 +15,11 @@ unfoldable pub count : {A : Type 0} → (A → Bool) → List A → ℕ
 count p [] = 0
 count p (x ∷ xs) = cond (p x) (suc (count p xs)) (count p xs)
 
+-- the index of the first element that passes the test, counted from 0; the length where none does
+unfoldable pub firstIndex : {A : Type 0} → (A → Bool) → List A → ℕ
+firstIndex p [] = 0
+firstIndex p (x ∷ xs) = cond (p x) 0 (suc (firstIndex p xs))
+
 -- the numbers below n, in order
 unfoldable pub range : ℕ → List ℕ
 range zero = []

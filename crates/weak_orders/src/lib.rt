@@ -23,7 +23,7 @@ fn slot(v: u8) -> usize
 }
 
 // A window has at most 16 symbols, so no more are looked at.
-fn capped(n: usize) -> usize
+pub fn capped(n: usize) -> usize
     ensures { λ r. ⌜ r ≡ min n 16 ⌝ }
 {
     if n < 16 { n } else { 16 }

@@ -1,5 +1,5 @@
 -- The direct calls on slices. Assumes nothing.
-use mathlib.Core.Bool.{true, false, cond}
+use mathlib.Core.Bool.{false, cond}
 use mathlib.Core.List.{List, _++_}
 use mathlib.Core.Path.{_≡_, refl, sym, _∙_}
 use Prim.Native.Nat.{ℕ, _≤_, _<_}
@@ -8,9 +8,9 @@ use native.Mathlib.Decide.{decLe}
 use lib.Dec.{ltb}
 use lib.ListN.{length, take, drop, replicate}
 use lib.Seq.{take-length, length-take-le}
-use borrow.Author.Tests.{ne-eqb, lt-ltb, le-ltb, ltb-false}
+use borrow.Author.Tests.{ne-eqb, lt-ltb, le-ltb}
 use Rattle.refusals.specs.declared.Cause.{Cause}
-use Rattle.refusals.specs.declared.Cause.the-variants.{ShortBuffer, WindowLength, RuleNumber}
+use Rattle.refusals.specs.declared.Cause.the-variants.{ShortBuffer}
 use Rattle.refusals.specs.declared.Verdict.{Verdict}
 use Rattle.refusals.specs.declared.Verdict.the-variants.{Accepted, Refused}
 use Rattle.weak_orders.specs.Converted.{judgedBy, judgedIn, answered, rankToHeight, heightToRank}
@@ -25,11 +25,10 @@ use Rattle.filling.specs.Answers.{judgedPattern, fillAnswer}
 use Rattle.filling.specs.Filled.{filled}
 use Rattle.filling.specs.Pattern.{isPattern}
 use Rattle.filling.proofs.Verdicts.{accepted-pattern}
-use Rattle.successors.specs.declared.Next.the-variants.{Refused as NoSymbol}
-use Rattle.successors.specs.NextSymbol.{nextSymbol, symbolBy, judged}
-use Rattle.successors.specs.Rules.{isRule}
-use Rattle.successors.proofs.RuleNumbers.{says-rule}
-use Rattle.successors.proofs.Steppable.{loaded-symbol}
+use Rattle.successors.specs.NextSymbol.{nextSymbol, symbolBy}
+use Rattle.successors.specs.RotationUnder.{rotationUnder, rotationBy, rotationAnswer}
+use Rattle.successors.specs.Rules.{ruleOf}
+use Rattle.successors.proofs.Steppable.{slice-answer}
 use Rattle.wko.specs.Calls.{toldFirst, beforeRoom, withRoom}
 
 -- what a copy of the first n leaves
@@ -72,15 +71,6 @@ unfolding answered
 answered-verdict Accepted w = refl
 answered-verdict (Refused c) w = refl
 
-module _ (n rule : ℕ) (s : List ℕ) where
-  unlong : isLength n ≡ false → nextSymbol rule n s ≡ NoSymbol WindowLength
-  unfolding nextSymbol symbolBy judged
-  unlong a = rw a
-
-  unruled : isLength n ≡ true → isRule rule ≡ false → nextSymbol rule n s ≡ NoSymbol RuleNumber
-  unfolding nextSymbol symbolBy judged
-  unruled a b = rw (a, b)
-
 pub rank-slice : (n : ℕ) (s : List ℕ) → rankToHeight n (take n (loaded n s)) ≡ rankToHeight n s
 unfolding rankToHeight answered
 rank-slice n s = by-loaded (judgedIn isRank n) (λ v u. answered v (heights u)) n s
@@ -111,12 +101,12 @@ fill-other n s ne = by-test (isLength n) (λ a. rw (a, ne-eqb (length s) n ne)) 
 
 -- a rule that does not fit a byte is no rule, and neither is 0
 pub symbol-slice : (n rule : ℕ) (s : List ℕ) → nextSymbol (cond (ltb rule 256) rule 0) n (take n (loaded n s)) ≡ nextSymbol rule n s
-symbol-slice n rule s = loaded-symbol (cond (ltb rule 256) rule 0) n s ∙ by-test (ltb rule 256)
-    (λ t. rw t)
-    (λ t. rw t (no-rule 0 (λ (l, h). omega arith) ∙ sym (no-rule rule (λ (l, h). omega (arith, ltb-false rule 256 t)))))
-  where
-    no-rule : (r : ℕ) → ¬ ((1 ≤ r) × (r ≤ 3)) → nextSymbol r n s ≡ cond (isLength n) (NoSymbol RuleNumber) (NoSymbol WindowLength)
-    no-rule r h = by-test (isLength n) (λ a. rw a (unruled n r s a (says-no (says-rule r) h))) (λ a. rw a (unlong n r s a))
+unfolding nextSymbol symbolBy
+symbol-slice n rule s = slice-answer (λ r v u. symbolBy v (ruleOf r u)) (λ c r q u v. refl) rule n s
+
+pub rotation-slice : (n rule : ℕ) (s : List ℕ) → rotationAnswer (cond (ltb rule 256) rule 0) n (take n (loaded n s)) ≡ rotationAnswer rule n s
+unfolding rotationAnswer rotationBy
+rotation-slice n rule s = slice-answer (λ r v u. rotationBy v (rotationUnder r u)) (λ c r q u v. refl) rule n s
 
 -- an accepted window has at most 16 symbols
 pub rank-most : (n : ℕ) (u : List ℕ) → rankToHeight n u .verdict ≡ Accepted → n ≤ 16

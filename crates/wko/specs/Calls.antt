@@ -1,10 +1,11 @@
--- What each direct call returns and leaves in the buffer, for every argument (document 01, "Turned down"; document 02, Paper 1).
+-- What each direct call returns and leaves in the buffer, for every argument (document 01, "Turned down"; document 02, Papers 1
+-- and 5).
 use mathlib.Core.Bool.{Bool, false, cond, not, _&&_}
 use mathlib.Core.List.{List, _++_}
 use Prim.Native.Nat.{ℕ}
 use lib.Dec.{ltb, leb}
 use lib.ListN.{length, take, drop, replicate}
-use Rattle.refusals.specs.Numbers.{causeNumber, returned}
+use Rattle.refusals.specs.Numbers.{causeNumber, refusal, returned}
 use Rattle.refusals.specs.declared.Cause.{Cause}
 use Rattle.refusals.specs.declared.Cause.the-variants.{ShortBuffer}
 use Rattle.refusals.specs.declared.Verdict.{Verdict}
@@ -16,8 +17,12 @@ use Rattle.ranking.specs.declared.NumberAnswer.the-variants.{Number, Refused as
 use Rattle.ranking.specs.Answers.{counted, placed, located}
 use Rattle.filling.specs.Answers.{fillAnswer}
 use Rattle.successors.specs.NextSymbol.{nextSymbol, nextNumber}
+use Rattle.successors.specs.RotationUnder.{rotationAnswer}
+use Rattle.successors.specs.declared.RotationAnswer.{RotationAnswer}
+use Rattle.successors.specs.declared.RotationAnswer.the-variants.{Found, Refused as NoRotation}
 use Rattle.frames.specs.Fields.{bytes64}
 use Rattle.wko.specs.declared.NumberBytes.{NumberBytes}
+use Rattle.wko.specs.declared.RotationNumbers.{RotationNumbers}
 
 -- the number returned, and the whole buffer
 abbrev pub Outcome : Type 0
@@ -60,10 +65,23 @@ unfoldable pub numberGiven : NumberAnswer → List ℕ → Outcome
 unfolding withRoom delivered
 numberGiven x out = delivered (withRoom 8 (length out) (numberBytes x .verdict)) (numberBytes x .bytes) out
 
+-- a rotation for an answer: its two numbers, or the refusal for both
+abbrev pub rotationNumbers : RotationAnswer → RotationNumbers
+rotationNumbers (Found r) = record { start = r .start; period = r .period }
+rotationNumbers (NoRotation cause) = record { start = refusal cause; period = refusal cause }
+
 -- the calls
 unfoldable pub nextSymbolCall : ℕ → ℕ → List ℕ → ℕ
 unfolding nextSymbol
 nextSymbolCall n rule w = nextNumber (nextSymbol rule n w)
+
+unfoldable pub rotationStartCall : ℕ → ℕ → List ℕ → ℕ
+unfolding rotationAnswer
+rotationStartCall n rule w = rotationNumbers (rotationAnswer rule n w) .start
+
+unfoldable pub periodCall : ℕ → ℕ → List ℕ → ℕ
+unfolding rotationAnswer
+periodCall n rule w = rotationNumbers (rotationAnswer rule n w) .period
 
 unfoldable pub rankToHeightCall : ℕ → List ℕ → List ℕ → Outcome
 unfolding windowGiven rankToHeight

@@ -15,13 +15,15 @@ ghost use Rattle.refusals.specs.declared.Cause.{Cause};
 ghost use Rattle.refusals.specs.declared.Verdict.{Verdict};
 ghost use Rattle.ranking.specs.declared.NumberAnswer.{NumberAnswer};
 ghost use Rattle.successors.specs.NextSymbol.{nextNumber};
+ghost use Rattle.successors.specs.RotationUnder.{rotationAnswer};
 ghost use Rattle.weak_orders.specs.declared.WindowAnswer.{WindowAnswer};
 ghost use Rattle.wko.specs.Calls.{toldFirst, withRoom, windowGiven, numberBytes, numberGiven};
-ghost use Rattle.wko.specs.Calls.{nextSymbolCall, rankToHeightCall, heightToRankCall, placeCall, windowAtCall, countCall, fillCall};
+ghost use Rattle.wko.specs.Calls.{rotationNumbers, nextSymbolCall, rotationStartCall, periodCall, rankToHeightCall, heightToRankCall, placeCall, windowAtCall, countCall, fillCall};
 use ranking::NumberAnswer;
 use refusals::Cause;
 use refusals::Verdict;
 use successors::Next;
+use successors::RotationAnswer;
 use weak_orders::WindowAnswer;
 
 // What C gets for a refusal: 256 and the table's number.
@@ -55,6 +57,48 @@ pub extern "C" fn wko_next_symbol(n: u64, rule: u64, window: &[u8]) -> u32
 {
     let w = weak_orders::load(window, n as usize);
     answer(successors::next_symbol(rule_number(rule), w, n as usize))
+}
+
+// A rotation in numbers: where it starts, counted from 1, and the period of the window. A refusal is both of them.
+struct RotationNumbers {
+    start: u32,
+    period: u32,
+}
+
+fn rotation_numbers(n: u64, rule: u64, window: &[u8]) -> RotationNumbers
+    ensures { λ r. ⌜ r ≡ rotationNumbers (rotationAnswer rule n (now (window .entry))) ⌝ }
+{
+    let w = weak_orders::load(window, n as usize);
+    let found = successors::rotation_under(rule_number(rule), w, n as usize);
+    match found {
+        RotationAnswer::Found(rotation) => RotationNumbers {
+            start: rotation.start as u32,
+            period: rotation.period as u32,
+        },
+        RotationAnswer::Refused(cause) => {
+            let number = refused(cause);
+            RotationNumbers {
+                start: number,
+                period: number,
+            }
+        }
+    }
+}
+
+// Where the least rotation of the window starts under rule 1, the greatest under rules 2 and 3.
+#[no_mangle]
+pub extern "C" fn wko_rotation_start(n: u64, rule: u64, window: &[u8]) -> u32
+    ensures { λ r. ⌜ r ≡ rotationStartCall n rule (now (window .entry)) ⌝ }
+{
+    rotation_numbers(n, rule, window).start
+}
+
+// The number of different rotations of the window.
+#[no_mangle]
+pub extern "C" fn wko_period(n: u64, rule: u64, window: &[u8]) -> u32
+    ensures { λ r. ⌜ r ≡ periodCall n rule (now (window .entry)) ⌝ }
+{
+    rotation_numbers(n, rule, window).period
 }
 
 // Direct calls test 6, 7, 1, then 8 or 13, and 15 last: a cause that is told before a short buffer.

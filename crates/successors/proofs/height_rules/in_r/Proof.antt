@@ -1,13 +1,16 @@
 -- `in_r` tests membership in R: two quick tests of the symbols, then the rotations. Assumes nothing.
 use mathlib.Core.Bool.{true}
 use mathlib.Core.List.{List, _∷_}
-use mathlib.Core.Path.{_≡_, sym, _∙_}
+use mathlib.Core.Path.{_≡_, sym, ap, _∙_}
 use Prim.Native.Nat.{ℕ}
 use native.Mathlib.Omega.{arith}
 use borrow.Author.Needs.{needs}
 use borrow.Author.Tests.{not-true, not-false}
 use lib.ListN.{take, drop, getD}
 use Rattle.weak_orders.specs.Window.{isHeight}
+use Rattle.rotations.specs.Rotation.{ownStanding}
+use Rattle.rotations.proofs.RotationSearch.{isFirst, first-greatest}
+use Rattle.successors.specs.Rules.{inR}
 use Rattle.successors.proofs.SetRTests.{inR-zero, inR-above, inR-gap, inR-greatest}
 use Rattle.successors.proofs.Windows.{InArray, parts, with-first}
 use Rattle.successors.proofs.height_rules.in_r.Statement.{statement}
@@ -51,17 +54,33 @@ returns-3 c =
 array-write-v : tie.Need-array-write-v
 array-write-v c = search needs
 
-is-greatest-requires : tie.Need-is-greatest-requires
-is-greatest-requires c κs = search needs
+own-standing-requires : tie.Need-own-standing-requires
+own-standing-requires c κs = search needs
 
-returns-4 : tie.Need-returns-4
-returns-4 c =
+enum-told : tie.Need-enum-told
+enum-told c = search needs
+
+enum-told-2 : tie.Need-enum-told-2
+enum-told-2 c = search needs
+
+-- the rotations decide
+decided : (c : tie.After-own-standing) →
+    let s = c .before .before .before .before .before .before in
+    isFirst (c .own-standing .result) ≡ inR (s .args .x ∷ tail s)
+decided c =
     let s = c .before .before .before .before .before .before in
     let ne = c .before .before .before .before .before .if1 .left in
     let top = sym (c .before .before .before .before .none-above .ensures) ∙ not-false _ (c .before .before .before .if2 .left) in
     let full = sym (c .before .before .all-behind .ensures) ∙ not-false _ (c .before .if3 .left) in
-    c .is-greatest .ensures
-    ∙ rw (with-first (array s) (s .args .x)) (inR-greatest (head s) (s .args .x) (tail s) (form s) (omega (arith, ne)) top full)
+    ap isFirst (c .own-standing .ensures ∙ ap ownStanding (with-first (array s) (s .args .x)))
+    ∙ first-greatest (s .args .x ∷ tail s)
+    ∙ inR-greatest (head s) (s .args .x) (tail s) (form s) (omega (arith, ne)) top full
+
+returns-4 : tie.Need-returns-4
+returns-4 c = let d = c .before .before in sym (ap isFirst (c .enum-told .given .1)) ∙ decided d
+
+returns-5 : tie.Need-returns-5
+returns-5 c = let d = c .before .before in sym (ap isFirst (c .enum-told2 .given .1)) ∙ decided d
 
 pub in-r-spec : {M : Type 1} → statement M
 in-r-spec =
@@ -74,5 +93,8 @@ in-r-spec =
     all-behind-requires
     returns-3
     array-write-v
-    is-greatest-requires
-    returns-4)
+    own-standing-requires
+    enum-told
+    enum-told-2
+    returns-4
+    returns-5)

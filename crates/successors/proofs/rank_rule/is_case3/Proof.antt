@@ -5,8 +5,8 @@ use Prim.Native.Nat.{ℕ, _≤_}
 use native.Mathlib.Omega.{arith}
 use borrow.Author.Needs.{needs}
 use lib.ListN.{take, drop, getD}
-use Rattle.weak_orders.specs.Rotation.{start}
 use Rattle.weak_orders.specs.Window.{all, num}
+use Rattle.rotations.specs.Rotation.{start}
 use Rattle.successors.specs.Rules.{single, before}
 use Rattle.successors.proofs.Rule1Cases.{case3-plain, case3-low, case3-once, case3-clear, scan-case, not-zero}
 use Rattle.successors.proofs.Tables.{table-num}

@@ -7,10 +7,10 @@ use Prim.Native.Nat.{ℕ, _≤_, _<_}
 use native.Mathlib.Omega.{arith}
 use borrow.Author.Needs.{needs}
 use lib.ListN.{take, drop, getD}
-use Rattle.weak_orders.specs.Rotation.{start}
 use Rattle.weak_orders.specs.Window.{num, isRank}
 use Rattle.weak_orders.proofs.RankForm.{says-rank, rank-one}
 use Rattle.weak_orders.proofs.Tests.{here}
+use Rattle.rotations.specs.Rotation.{start}
 use Rattle.successors.proofs.Rule1Cases.{case4-low, case4-many, case4-one, case4-clear, scan-case}
 use Rattle.successors.proofs.Singles.{under-fall, rank-fall, largest-above}
 use Rattle.successors.proofs.Tables.{table-num, largest-le}

@@ -5,9 +5,10 @@ use Prim.Native.Nat.{ℕ, _-_, _≤_, _<_}
 use native.Mathlib.Omega.{arith}
 use borrow.Author.Needs.{needs}
 use lib.ListN.{take, drop, getD}
-use Rattle.weak_orders.specs.Rotation.{start}
 use Rattle.weak_orders.specs.Window.{all}
 use Rattle.weak_orders.proofs.RankForm.{says-rank}
+use Rattle.rotations.specs.Rotation.{start, leastRotation}
+use Rattle.rotations.specs.declared.Rotation.{Rotation}
 use Rattle.successors.specs.ByTable.{passesBy, scanBy}
 use Rattle.successors.proofs.Windows.{InArray, with-first, low-front, one-behind, before-array}
 use Rattle.successors.proofs.rank_rule.single_before_start.Statement.{statement}
@@ -32,7 +33,10 @@ scanned s =
     sym (ap (all test) (before-array (s .args .w) (s .args .n) (start (other s)) (omega (arith, one s .1))))
 
 starts : (c : tie.After-least-rotation) → c .least-rotation .result .start ≡ start (other (c .before .before .before))
-starts c = let s = c .before .before .before in c .least-rotation .ensures ∙ ap start (with-first (array s) (s .args .x))
+unfolding leastRotation
+starts c =
+    let s = c .before .before .before in
+    ap (λ (r : Rotation). r .start) (c .least-rotation .ensures) ∙ ap start (with-first (array s) (s .args .x))
 
 repeat-before-one-requires : tie.Need-repeat-before-one-requires
 repeat-before-one-requires c κs = search needs

@@ -1,4 +1,4 @@
--- `precedes` compares the two rotations. The loop's invariant: what is left of them from index k compares as they do. The measure is
+-- `compare` compares the two rotations. The loop's invariant: what is left of them from index k compares as they do. The measure is
 -- what is left of n. Assumes nothing.
 use mathlib.Core.List.{List}
 use mathlib.Core.Path.{_≡_}
@@ -6,16 +6,16 @@ use Prim.Native.Nat.{ℕ, _≤_, _-_}
 use native.Mathlib.Omega.{arith}
 use borrow.Author.Needs.{needs}
 use lib.ListN.{length, take, drop, getD}
-use Rattle.weak_orders.specs.Order.{lexLt}
-use Rattle.weak_orders.specs.Rotation.{rotation}
-use Rattle.successors.proofs.Comparison.{rotation-length, Front, front-less, front-greater, front-equal, lexLt-end}
-use Rattle.successors.proofs.rotations.precedes.Statement.{statement}
-use Rattle.successors.proofs.rotations.precedes.Tie as tie
+use Rattle.rotations.specs.Order.{compared}
+use Rattle.rotations.specs.Rotation.{rotation}
+use Rattle.rotations.proofs.Compared.{rotation-length, Front, front-less, front-greater, front-equal, compared-end}
+use Rattle.rotations.proofs.compare.Statement.{statement}
+use Rattle.rotations.proofs.compare.Tie as tie
 
 abbrev Inv-loop : tie.InvT-loop
 Inv-loop n i j w k₀ k =
     (k ≤ n) ×
-    (lexLt (rotation (take n w) i) (rotation (take n w) j) ≡ lexLt (drop k (rotation (take n w) i)) (drop k (rotation (take n w) j)))
+    (compared (rotation (take n w) i) (rotation (take n w) j) ≡ compared (drop k (rotation (take n w) i)) (drop k (rotation (take n w) j)))
 
 abbrev μ-loop : tie.MeasureT-loop
 μ-loop n i j w k₀ k = n - k
@@ -86,10 +86,10 @@ loop-again c = (omega arith, front-equal _ _ _ _ _ (front (c .before .before)) (
 returns-3 : tie.Need-returns-3 Inv-loop μ-loop
 returns-3 c =
     let s = c .before .before in
-    lexLt-end (from-i s) (from-j s) (c .before .loop .k) (omega (arith, long-j s)) (c .before .loop .inv .1)
+    compared-end (from-i s) (from-j s) (c .before .loop .k) (omega (arith, long-i s)) (omega (arith, long-j s)) (c .before .loop .inv .1)
 
-pub precedes-spec : {M : Type 1} → statement M
-precedes-spec =
+pub compare-spec : {M : Type 1} → statement M
+compare-spec =
     tie.close
     (tie.spec
     Inv-loop

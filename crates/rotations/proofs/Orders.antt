@@ -1,5 +1,5 @@
--- Dictionary order is a total order, and a list that is not empty has a least member in any total order. Assumes nothing.
-use mathlib.Core.Bool.{true, false, false≢true}
+-- Dictionary order is a total order, in both directions, and a list that is not empty has a least member in any total order. Assumes nothing.
+use mathlib.Core.Bool.{Bool, true, false, false≢true}
 use mathlib.Core.List.{List, [], _∷_, List·Memᴰ·eq-of-singleton}
 use mathlib.Core.Logic.{_⊎_, inl, inr, ⊎-elim}
 use mathlib.Core.Path.{_≡_, refl, sym, ap₂, _∙_}
@@ -7,9 +7,9 @@ use Prim.Native.Nat.{ℕ, _≤_, _<_}
 use native.Mathlib.Omega.{arith}
 use native.Mathlib.Decide.{decLt, ℕ-discrete}
 use borrow.Author.Tests.{lt-ltb, le-ltb, eq-eqb, ne-eqb, not-true}
-use Rattle.weak_orders.specs.Order.{lexLe, lexLt}
 use Rattle.weak_orders.specs.Says.{Says}
-use Rattle.weak_orders.proofs.Tests.{_∈_, here, there, split-mem, says-as, says-lt}
+use Rattle.weak_orders.proofs.Tests.{_∈_, here, there, split-mem, says-as, says-itself, says-and, says-lt}
+use Rattle.rotations.specs.Order.{lexLe, lexLt, same}
 
 -- the order of two strings with a first symbol each
 pub lex-cons : (x : ℕ) (u : List ℕ) (y : ℕ) (v : List ℕ) → Says (lexLe (x ∷ u) (y ∷ v)) ((x < y) ⊎ ((x ≡ y) × (lexLe u v ≡ true)))
@@ -55,6 +55,35 @@ lex-total (x ∷ u) (y ∷ v) = elim (ℕ-discrete x y) [
 -- the first symbols of ordered strings are ordered
 pub lex-head : (x : ℕ) (u : List ℕ) (y : ℕ) (v : List ℕ) → lexLe (x ∷ u) (y ∷ v) ≡ true → x ≤ y
 lex-head x u y v t = ⊎-elim (λ lt. omega arith) (λ (e, _). omega arith) (lex-cons x u y v .to t)
+
+-- ---- both directions
+
+-- a comparison of strings that is a total order: `le u v` says that v does not stand before u
+pub record TotalOrder (le : List ℕ → List ℕ → Bool) : Type 0 where
+  pub reflexive : (u : List ℕ) → le u u ≡ true
+  pub transitive : (u v w : List ℕ) → le u v ≡ true → le v w ≡ true → le u w ≡ true
+  pub antisymmetric : (u v : List ℕ) → le u v ≡ true → le v u ≡ true → u ≡ v
+  pub total : (u v : List ℕ) → (le u v ≡ true) ⊎ (le v u ≡ true)
+
+abbrev pub lexGe : List ℕ → List ℕ → Bool
+lexGe u v = lexLe v u
+
+pub upward : TotalOrder lexLe
+upward = record { reflexive = lex-refl; transitive = lex-trans; antisymmetric = lex-antisymm; total = lex-total }
+
+pub downward : TotalOrder lexGe
+downward = record {
+  reflexive = lex-refl;
+  transitive = λ u v w a b. lex-trans w v u b a;
+  antisymmetric = λ u v a b. lex-antisymm u v b a;
+  total = λ u v. lex-total v u;
+}
+
+pub says-same : (u v : List ℕ) → Says (same u v) (u ≡ v)
+unfolding same
+says-same u v = says-as (says-and (says-itself (lexLe u v)) (says-itself (lexLe v u)))
+    (λ (a, b). lex-antisymm u v a b)
+    (λ e. rw e (lex-refl v, lex-refl v))
 
 -- ---- the strict order
 

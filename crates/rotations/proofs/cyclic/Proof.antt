@@ -1,8 +1,8 @@
 -- `cyclic`: the symbol stands at i + k, or n places before that. Assumes nothing.
 use borrow.Author.Needs.{needs}
-use Rattle.successors.proofs.Comparison.{rotation-on, rotation-round}
-use Rattle.successors.proofs.rotations.cyclic.Statement.{statement}
-use Rattle.successors.proofs.rotations.cyclic.Tie as tie
+use Rattle.rotations.proofs.Compared.{rotation-on, rotation-round}
+use Rattle.rotations.proofs.cyclic.Statement.{statement}
+use Rattle.rotations.proofs.cyclic.Tie as tie
 
 add-j : tie.Need-add-j
 add-j c = search needs

@@ -1,24 +1,24 @@
 -- The rotations of a window: what a rotation keeps, and the least and the greatest of them. All rotations of one window are its rotation
 -- class; the papers call it a ring. Assumes nothing.
-use mathlib.Core.Bool.{Bool, true, false}
+use mathlib.Core.Bool.{Bool, true}
 use mathlib.Core.List.{List, [], _∷_, _++_, append-assoc, append-nil, List·Memᴰ·head, Memᴰ·append-right, head-eq-of-cons-eq}
 use mathlib.Core.List.{tail-eq-of-cons-eq}
 use mathlib.Core.List.{Memᴰ·map, Memᴰ·of-map, Memᴰ·cast}
-use mathlib.Core.Logic.{_⊎_, _↔_}
+use mathlib.Core.Logic.{_↔_}
 use mathlib.Core.Path.{_≡_, refl, sym, ap, _∙_}
 use Prim.Native.Nat.{ℕ, zero, suc, _+_, _≤_, _<_}
 use native.Mathlib.Omega.{arith}
 use lib.ListN.{length, take, drop, getD, length-append, take-append-drop, length-map, List·getD-map}
 use lib.Seq.{take-suc, drop-cons, take-length, drop-length, take-append-seam, drop-append-seam}
-use Rattle.weak_orders.specs.Order.{lexLe}
-use Rattle.weak_orders.specs.Rotation.{rotation, rotations, isLeast, isGreatest, firstIndex, start}
 use Rattle.weak_orders.specs.Says.{Says}
-use Rattle.weak_orders.specs.Window.{all, count, range, iter, num, below}
+use Rattle.weak_orders.specs.Window.{all, count, firstIndex, range, iter, num, below}
 use Rattle.weak_orders.proofs.Iterates.{_⇝⟨_⟩_, iter-add, along, stay, on, _⨟_, first-step, back}
-use Rattle.weak_orders.proofs.Lists.{count-append, in-range, length-range, getD-range, total, total-append}
-use Rattle.weak_orders.proofs.Orders.{lex-trans, lex-total, least-member}
+use Rattle.weak_orders.proofs.Lists.{count-append, first-index, in-range, length-range, getD-range, total, total-append}
 use Rattle.weak_orders.proofs.Symbols.{num-mem}
-use Rattle.weak_orders.proofs.Tests.{_∈_, here, there, nowhere, split-mem, true?, not-true→false, says-as, says-itself, says-all}
+use Rattle.weak_orders.proofs.Tests.{_∈_, there, nowhere, split-mem, says-as, says-itself, says-all}
+use Rattle.rotations.specs.Order.{lexLe}
+use Rattle.rotations.specs.Rotation.{rotation, rotations, isLeast, isGreatest, start, startGreatest}
+use Rattle.rotations.proofs.Orders.{TotalOrder, lexGe, upward, downward, least-member}
 
 -- Rotation by one.
 unfoldable pub turn : List ℕ → List ℕ
@@ -149,37 +149,6 @@ pub says-greatest : (x : ℕ) (b u : List ℕ) → Says (isGreatest (x ∷ b) u)
 unfolding isGreatest
 says-greatest x b u = says-rotations (λ v. says-itself (lexLe v u)) x b
 
--- Each rotation class has a least and a greatest rotation.
-extreme : (le : List ℕ → List ℕ → Type 0) → ((u v : List ℕ) → le u v ⊎ le v u) →
-    ((u v w : List ℕ) → le u v → le v w → le u w) →
-    (x : ℕ) (b : List ℕ) → (m : List ℕ) × (x ∷ b ⟳ m) × ((v : List ℕ) → x ∷ b ⟳ v → le m v)
-extreme le total trans x b =
-    let (m, h, low) = least-member le total trans (x ∷ b) (rotations (x ∷ b)) in
-    (m, split-mem (λ e. stay (sym e)) (mem-rotations x b m .0) h, λ v c. low v (there (mem-rotations x b v .1 c)))
-
-pub least : (x : ℕ) (b : List ℕ) → (m : List ℕ) × (x ∷ b ⟳ m) × ((v : List ℕ) → x ∷ b ⟳ v → lexLe m v ≡ true)
-least = extreme (λ u v. (lexLe u v ≡ true)) lex-total lex-trans
-
-pub greatest : (x : ℕ) (b : List ℕ) → (m : List ℕ) × (x ∷ b ⟳ m) × ((v : List ℕ) → x ∷ b ⟳ v → lexLe v m ≡ true)
-greatest = extreme (λ u v. (lexLe v u ≡ true)) (λ u v. lex-total v u) (λ u v w a b. lex-trans w v u b a)
-
--- `start`: the first of the indices from which the window is read as its least rotation.
-pub first-index : {A : Type 0} (f : A → Bool) (l : List A) (d : A) (j : ℕ) → j < length l → f (getD l j d) ≡ true →
-    (firstIndex f l ≤ j) × (f (getD l (firstIndex f l) d) ≡ true)
-unfolding firstIndex
-first-index f [] d j lt t = absurd (omega arith)
-first-index f (x ∷ l) d zero lt t = rw (t) (omega arith, t)
-first-index f (x ∷ l) d (suc j) lt t = elim (true? (f x)) [
-  | yes h ↦ rw (h) (omega arith, h)
-  | no h ↦ rw (not-true→false (f x) h) (let (le, t′) = first-index f l d j (omega arith) t in (omega arith, t′))
-]
-
--- where no element passes the test it is the length
-pub first-index-none : {A : Type 0} (f : A → Bool) (l : List A) → ((x : A) → x ∈ l → f x ≡ false) → firstIndex f l ≡ length l
-unfolding firstIndex
-first-index-none f [] h = refl
-first-index-none f (x ∷ l) h = rw (h x here) (ap suc (first-index-none f l (λ y m. h y (there m))))
-
 length-rotations : (w : List ℕ) → length (rotations w) ≡ length w
 unfolding rotations
 length-rotations w = length-map (range (length w)) (rotation w) ∙ length-range (length w)
@@ -188,39 +157,59 @@ getD-rotations : (w : List ℕ) (j : ℕ) → j < length w → getD (rotations w
 unfolding rotations
 getD-rotations w j lt = List·getD-map (rotation w) (range (length w)) j 0 ∙ ap (rotation w) (getD-range (length w) j lt)
 
--- The parts before and behind `start`.
-pub record Start (w : List ℕ) (i : ℕ) : Type 0 where
+-- The rotation of w from i comes first in an order, and i is the least index of it.
+pub record StartBy (le : List ℕ → List ℕ → Bool) (w : List ℕ) (i : ℕ) : Type 0 where
   pub inside : i < length w
-  pub lowest : (v : List ℕ) → w ⟳ v → lexLe (rotation w i) v ≡ true
-  pub first : (j : ℕ) → j < length w → ((v : List ℕ) → w ⟳ v → lexLe (rotation w j) v ≡ true) → i ≤ j
+  pub lowest : (v : List ℕ) → w ⟳ v → le (rotation w i) v ≡ true
+  pub first : (j : ℕ) → j < length w → ((v : List ℕ) → w ⟳ v → le (rotation w j) v ≡ true) → i ≤ j
+
+-- There is but one such index.
+pub start-unique : {le : List ℕ → List ℕ → Bool} (w : List ℕ) (i j : ℕ) → StartBy le w i → StartBy le w j → i ≡ j
+start-unique w i j S T = omega (arith, S .first j (T .inside) (T .lowest), T .first i (S .inside) (S .lowest))
+
+module _ {le : List ℕ → List ℕ → Bool} (order : TotalOrder le) (x : ℕ) (b : List ℕ) where
+  -- Each rotation class has a rotation that comes first.
+  pub extreme : (m : List ℕ) × (x ∷ b ⟳ m) × ((v : List ℕ) → x ∷ b ⟳ v → le m v ≡ true)
+  extreme =
+      let (m, h, low) = least-member (λ u v. (le u v ≡ true)) (order .total) (order .transitive) (x ∷ b) (rotations (x ∷ b)) in
+      (m, split-mem (λ e. stay (sym e)) (mem-rotations x b m .0) h, λ v c. low v (there (mem-rotations x b v .1 c)))
+
+  pub start-by : StartBy le (x ∷ b) (firstIndex (λ u. all (le u) (rotations (x ∷ b))) (rotations (x ∷ b)))
+  start-by =
+      let w = x ∷ b in
+      let i = firstIndex (λ u. all (le u) (rotations w)) (rotations w) in
+      let says : (u : List ℕ) → Says (all (le u) (rotations w)) ((v : List ℕ) → w ⟳ v → le u v ≡ true) =
+      λ u. says-rotations (λ v. says-itself (le u v)) x b in
+      let index : (j : ℕ) → j < length w → all (le (rotation w j)) (rotations w) ≡ true →
+      (i ≤ j) × (all (le (getD (rotations w) i (rotation w 0))) (rotations w) ≡ true) =
+      λ j lt t. first-index (λ u. all (le u) (rotations w)) (rotations w) (rotation w 0) j (rw (length-rotations w) lt) (rw (getD-rotations w j lt) t) in
+      let (m, c, low) = extreme in
+      let (j, lt, e) = index-of x b c in
+      let (le′, t) = index j lt (says (rotation w j) .of (rw e low)) in
+      let inside : i < length w = omega arith in
+      record {
+        inside = inside;
+        lowest = says (rotation w i) .to (rw (getD-rotations w i inside) at t);
+        first = λ j lt low. index j lt (says (rotation w j) .of low) .0;
+      }
+
+-- In the two directions of dictionary order: the least and the greatest rotation, `start` and `startGreatest`.
+pub least : (x : ℕ) (b : List ℕ) → (m : List ℕ) × (x ∷ b ⟳ m) × ((v : List ℕ) → x ∷ b ⟳ v → lexLe m v ≡ true)
+least = extreme upward
+
+pub greatest : (x : ℕ) (b : List ℕ) → (m : List ℕ) × (x ∷ b ⟳ m) × ((v : List ℕ) → x ∷ b ⟳ v → lexLe v m ≡ true)
+greatest = extreme downward
+
+abbrev pub Start : List ℕ → ℕ → Type 0
+Start = StartBy lexLe
 
 pub start-first : (x : ℕ) (b : List ℕ) → (i : ℕ) × (start (x ∷ b) ≡ suc i) × Start (x ∷ b) i
-unfolding start
-start-first x b = (
-  i,
-  refl,
-  record {
-    inside = omega (arith, found .0);
-    lowest = says-least x b (rotation w i) .to (rw (getD-rotations w i (omega (arith, found .0))) at (found .1));
-    first = λ j lt low. index j lt (says-least x b (rotation w j) .of low) .0;
-  },
-)
-  where
-    w : List ℕ
-    w = x ∷ b
+unfolding start isLeast
+start-first x b = (_, refl, start-by upward x b)
 
-    i : ℕ
-    i = firstIndex (isLeast w) (rotations w)
-
-    index : (j : ℕ) → j < length w → isLeast w (rotation w j) ≡ true → (i ≤ j) × (isLeast w (getD (rotations w) i (rotation w 0)) ≡ true)
-    index j lt t = first-index (isLeast w) (rotations w) (rotation w 0) j (rw (length-rotations w) lt) (rw (getD-rotations w j lt) t)
-
-    found : (i < length w) × (isLeast w (getD (rotations w) i (rotation w 0)) ≡ true)
-    found =
-        let (m, c, low) = least x b in
-        let (j, lt, e) = index-of x b c in
-        let (le, t) = index j lt (says-least x b (rotation w j) .of (rw e low)) in
-        (omega arith, t)
+pub greatest-first : (x : ℕ) (b : List ℕ) → (i : ℕ) × (startGreatest (x ∷ b) ≡ suc i) × StartBy lexGe (x ∷ b) i
+unfolding startGreatest isGreatest
+greatest-first x b = (_, refl, start-by downward x b)
 
 -- Turning again and again gives the rotations, and in the end the window.
 pub iter-turn : (i : ℕ) (w : List ℕ) → i ≤ length w → iter turn i w ≡ rotation w i
