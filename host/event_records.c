@@ -110,14 +110,36 @@ static void even_round(int top, int spacing)
     event(step(1), 40, 40);
 }
 
-/* Whether each number that is meant to come has come. */
+/* A WKO2 round on a table, with the begin frame sent again when another table is loaded, and steps of the round before that come late. */
+static void numbered_round(int round, int rule, const char *window)
+{
+    load_table(rule - 1);
+    event(in_round(round, begin(3, rule, 0, 0, window)), 40, 40);
+    load_table(rule % 3);
+    event(in_round(round, begin(3, rule, 0, 0, window)), 40, 47);  /* again: the copy stays */
+    event(in_round(round, begin(3, rule, 0, 25, window)), 40, 40); /* 19: another spacing */
+    event(in_round(round, begin(3, rule, 25, 0, window)), 40, 40); /* 9: another top */
+    for (int k = 1; k <= 13; k++) {
+        event(in_round(round - 1, step((uint64_t)k)), 40, 40); /* 18: late */
+        event(in_round(round, step((uint64_t)k)), 40, 40);
+        load_table(k % 3);
+        event(in_round(round, step((uint64_t)k)), 40, 47);
+        load_bad(k + rule);
+        event(step((uint64_t)k), 40, 40); /* 17 */
+    }
+    event(in_round(round, begin(3, rule, 0, 0, window)), 40, 40); /* 19: steps are done */
+    event(in_round(round, step(14)), 40, 40);                     /* 12 */
+    event(in_round(round, query()), 40, 40);
+}
+
+/* Whether each number that is meant to come has come, and a begin frame again. */
 static int all_seen(void)
 {
-    static const int numbers[] = {0, 1, 2, 9, 10, 11, 12};
+    static const int numbers[] = {0, 1, 2, 9, 10, 11, 12, 17, 18, 19};
     for (size_t k = 0; k < sizeof numbers / sizeof *numbers; k++)
         if (seen[numbers[k]] == 0)
             return 0;
-    return seen_loads[0] > 0 && seen_loads[1] > 0;
+    return seen_loads[0] > 0 && seen_loads[1] > 0 && seen_again > 0;
 }
 
 int main(int argc, char **argv)
@@ -130,7 +152,10 @@ int main(int argc, char **argv)
     even_round(-1000, 100);
     table_round(2, "201");
     even_round(0, 25);
+    numbered_round(2, 1, "111");
+    numbered_round(3, 2, "201");
     table_round(3, "000");
+    numbered_round(255, 3, "000");
     if (!all_seen()) {
         fprintf(stderr, "event_records: a number is missing\n");
         return 1;

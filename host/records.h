@@ -7,8 +7,8 @@
 #include <string.h>
 
 static FILE *records, *answers;
-static struct wko_session session;
-static int seen[13];
+static struct wko_session session = {.version = 1}; /* as wko_fresh gives it */
+static int seen[20], seen_again;
 
 /* Opens the files that the arguments name: whether it could. */
 static inline int open_files(int argc, char **argv)
@@ -19,14 +19,21 @@ static inline int open_files(int argc, char **argv)
     return 0;
 }
 
+/* Whether a frame has the number of the WKO2 round that is in force: a begin frame that has it and is accepted is the one in force, again. */
+static inline int has_number_in_force(const uint8_t *f)
+{
+    return f[3] == '2' && session.version == 2 && f[7] == session.round && model_has_begun(&session);
+}
+
 /* A record of `replay`, and what the model answers. */
 static inline void send(const uint8_t *f, size_t frame_len, size_t answer_len)
 {
     uint8_t answer[255];
-    int number;
+    int number, same = has_number_in_force(f);
     memset(answer, 165, sizeof answer);
     number = model_exchange(&session, f, frame_len, answer, answer_len);
     seen[number]++;
+    seen_again += number == 0 && f[4] == 'B' && same;
     fputc((int)answer_len, records);
     fputc((int)frame_len, records);
     fwrite(f, 1, frame_len, records);
@@ -58,6 +65,14 @@ static inline uint8_t *query(void)
 {
     wko_build_query(frame);
     return frame;
+}
+
+/* A frame as WKO2 with a round number; 0 leaves WKO1. */
+static inline uint8_t *in_round(int round, uint8_t *f)
+{
+    if (round != 0)
+        wko_set_round(f, (uint8_t)round);
+    return f;
 }
 
 static inline uint8_t *changed(uint8_t *f, int at, int value)

@@ -1,4 +1,5 @@
-/* An independent model of document 01's session and frames, with the level tables of document 02, Paper 4, for the host tests. */
+/* An independent model of document 01's session and frames, with the level tables and the WKO2 frames of document 02, Papers 4 and 6, for the host
+ * tests. */
 #ifndef SESSION_MODEL_H
 #define SESSION_MODEL_H
 #include "../include/wko.h"

@@ -59,16 +59,20 @@ static void prepare_file(void)
     file_len = ref_write_table(table, (char *)file);
 }
 
-/* A begin frame, on the table that is held or with even spacing, fourteen steps and a query in turn. */
+/* A begin frame, on the table that is held or with even spacing, sent twice, thirteen steps and a query in turn, in either version. */
 static void prepare_frame(int round)
 {
     const struct wko_setting setting = {0, (uint16_t)(round / 48 % 2 ? 0 : 100), {0}};
+    if (round % 16 == 1)
+        return;
     if (round % 16 == 0)
         wko_build_begin(frame, 16, (uint8_t)(1 + round / 16 % 3), setting, round / 16 % 3 == 0 ? ranks : heights);
     else if (round % 16 == 15)
         wko_build_query(frame);
     else
         wko_build_step(frame, state.session.done + 1);
+    if (round / 96 % 2)
+        wko_set_round(frame, (uint8_t)(1 + round / 16 % 255));
 }
 
 /* Another window, pattern, place, file and frame: with few ties or many, all alike, all different. */

@@ -37,7 +37,7 @@ static int print_counts(void)
 
 static int print_refusals(void)
 {
-    for (uint32_t number = WKO_SHORT_BUFFER; number <= WKO_LEVEL_FILE; number++)
+    for (uint32_t number = WKO_SHORT_BUFFER; number <= WKO_ROUND_IN_FORCE; number++)
         printf("%2" PRIu32 "  %s\n", number, wko_refusal_text(number));
     return 0;
 }

@@ -476,10 +476,10 @@ static void conveniences(void)
 {
     CHECK(WKO_REFUSED(0) == 0 && WKO_REFUSED(16) == 0, "a symbol or 0 is no refusal");
     CHECK(WKO_REFUSED(wko_count(17, NULL, 0)) == WKO_WINDOW_LENGTH, "a refusal of a direct call has its number");
-    for (uint32_t i = 0; i <= 17; i++)
+    for (uint32_t i = 0; i <= 20; i++)
         for (uint32_t j = 0; j < i; j++)
             CHECK(strcmp(wko_refusal_text(i), wko_refusal_text(j)) != 0, "refusals %u and %u have the same text", i, j);
-    CHECK(wko_refusal_text(17) == wko_refusal_text(UINT32_MAX), "there are 16 refusals");
+    CHECK(wko_refusal_text(20) == wko_refusal_text(UINT32_MAX), "there are 19 refusals");
 }
 
 int main(void)

@@ -6,7 +6,7 @@
 #include "testing.h"
 
 static uint8_t *frame_page, *answer_page, *file_page;
-static long seen[13], seen_loads[2], seen_table_steps;
+static long seen[20], seen_loads[2], seen_table_steps, seen_round_steps, seen_again;
 
 static int same_setting(const struct wko_setting *a, const struct wko_setting *b)
 {
@@ -15,22 +15,36 @@ static int same_setting(const struct wko_setting *a, const struct wko_setting *b
 
 static int same_session(const struct wko_session *a, const struct wko_session *b)
 {
-    return a->begun == b->begun && a->n == b->n && a->rule == b->rule && same_setting(&a->setting, &b->setting) && a->done == b->done
-           && memcmp(a->window, b->window, 16) == 0 && memcmp(a->held, b->held, sizeof a->held) == 0;
+    return a->begun == b->begun && a->version == b->version && a->round == b->round && a->n == b->n && a->rule == b->rule
+           && same_setting(&a->setting, &b->setting) && a->done == b->done && memcmp(a->window, b->window, 16) == 0
+           && memcmp(a->held, b->held, sizeof a->held) == 0;
 }
 
-/* What wko_read_answer reads, against the model after the frame; `stepped` where the frame was a step. */
-static void check_read(const uint8_t *answer, const struct wko_session *model, int refusal, int stepped)
+/* What wko_read_answer reads, against the model after the frame; `stepped` where the frame was a step, and `version` that of the frame. */
+static void check_read(const uint8_t *answer, const struct wko_session *model, int refusal, int stepped, int version)
 {
     struct wko_answer read;
     int symbol = refusal == 0 && stepped ? model->window[model->n - 1] : 0;
     long level = refusal == 0 && stepped ? model_level(model, symbol) : 0;
     CHECK(wko_read_answer(&read, answer, 40) == 1 && read.refusal == refusal, "an answer reads as refusal %d", refusal);
+    CHECK(read.version == version, "version %d of the answer to a frame of version %d", read.version, version);
+    CHECK(read.round == (refusal == 0 && version == 2 ? model->round : 0), "round %d in an answer, refusal %d", read.round, refusal);
     CHECK(read.symbol == symbol && read.level == level, "symbol %d and level %d", read.symbol, (int)read.level);
     CHECK(read.done == (refusal == 0 ? model->done : 0), "steps done in an answer, refusal %d", refusal);
     CHECK((read.different == 0) == (refusal != 0), "different symbols in an answer, refusal %d", refusal);
     if (refusal == 0)
         CHECK(memcmp(read.window, model->window, 16) == 0, "the window in an answer");
+}
+
+/* Counts what a frame came to. A WKO2 begin frame that is accepted and changes nothing is a resend. */
+static void count_frame(const struct wko_session *before, const uint8_t *frame, const struct wko_session *after, int refusal)
+{
+    seen[refusal]++;
+    if (refusal != 0)
+        return;
+    seen_table_steps += frame[4] == 'S' && after->setting.spacing == 0;
+    seen_round_steps += frame[4] == 'S' && frame[3] == '2';
+    seen_again += frame[4] == 'B' && frame[3] == '2' && same_session(before, after);
 }
 
 /* One frame through both, from the same session; the library's answer buffer ends at a page that may not be touched. */
@@ -45,14 +59,13 @@ static void check_frame(struct wko_session *s, const uint8_t *frame, size_t fram
     memset(expected, FILL, sizeof expected);
     got = wko_exchange(*s, f, frame_len, answer, answer_len);
     want = model_exchange(&model, frame, frame_len, expected, answer_len);
-    seen[want]++;
-    seen_table_steps += want == 0 && frame[4] == 'S' && model.setting.spacing == 0;
+    count_frame(s, frame, &model, want);
     CHECK((int)got.number == want, "frame of %zu bytes, kind %d: %u, not %d", frame_len, frame_len > 4 ? frame[4] : -1, got.number, want);
     CHECK(same_session(&got.session, &model), "another session after kind %d, refusal %d", frame_len > 4 ? frame[4] : -1, want);
     CHECK(memcmp(answer, expected, answer_len) == 0, "another answer, refusal %d", want);
     CHECK(untouched(answer_page, answer, answer_len, answer_len), "wrote in front of the answer buffer");
     if (answer_len >= 40)
-        check_read(answer, &model, want, frame_len > 4 && frame[4] == 'S');
+        check_read(answer, &model, want, frame_len > 4 && frame[4] == 'S', frame_len == 40 && memcmp(frame, "WKO2", 4) == 0 ? 2 : 1);
     *s = got.session;
 }
 
@@ -185,6 +198,15 @@ static struct wko_setting random_setting(int edge)
     return s;
 }
 
+/* A frame as WKO2 with a round number; 0 leaves WKO1. */
+static uint8_t *in_round(int round, uint8_t *f)
+{
+    if (round != 0)
+        wko_set_round(f, (uint8_t)round);
+    return f;
+}
+
+/* In either version, with few round numbers, so that they come again. */
 static void begin_frame(uint8_t *f, int small)
 {
     int n = 1 + (int)random_below(small ? 3 : 16), rule = 1 + (int)random_below(3);
@@ -192,6 +214,29 @@ static void begin_frame(uint8_t *f, int small)
     uint8_t window[16];
     random_window(rule, n, window);
     wko_build_begin(f, (uint8_t)n, (uint8_t)rule, setting, window);
+    in_round(random_below(2) ? 1 + (int)random_below(3) : 0, f);
+}
+
+/* The begin frame in force, where a WKO2 round is and no step is done; else one with the round's number, or 1. */
+static void begin_again_frame(uint8_t *f, const struct wko_session *s)
+{
+    wko_build_begin(f, (uint8_t)s->n, s->rule, s->setting, s->window);
+    wko_set_round(f, s->round != 0 ? s->round : 1);
+}
+
+/* A step or a query, of the session's version and round more often than not. */
+static void round_frame(uint8_t *f, const struct wko_session *s, uint64_t kind)
+{
+    if (kind == 0)
+        wko_build_query(f);
+    else if (kind < 10)
+        wko_build_step(f, s->done + 1);
+    else if (kind < 12)
+        wko_build_step(f, s->done);
+    else
+        wko_build_step(f, random_below(2) ? random_below(20) : random64());
+    if (random_below(16) ? s->version == 2 : random_below(2))
+        wko_set_round(f, random_below(12) ? s->round : (uint8_t)random_below(4));
 }
 
 /* A frame that fits the session more often than not, sometimes with a byte changed, sometimes of another length. */
@@ -199,17 +244,12 @@ static size_t random_frame(uint8_t *f, const struct wko_session *s, int small)
 {
     uint64_t kind = random_below(16);
     size_t len = 40;
-    if (kind == 0) {
+    if (kind == 0)
         begin_frame(f, small);
-    } else if (kind == 1) {
-        wko_build_query(f);
-    } else if (kind < 12) {
-        wko_build_step(f, s->done + 1);
-    } else if (kind < 14) {
-        wko_build_step(f, s->done);
-    } else {
-        wko_build_step(f, random_below(2) ? random_below(20) : random64());
-    }
+    else if (kind == 1)
+        begin_again_frame(f, s);
+    else
+        round_frame(f, s, kind - 2);
     if (random_below(8) == 0)
         f[random_below(40)] = (uint8_t)random64();
     if (random_below(32) == 0)
@@ -221,6 +261,8 @@ static struct wko_session random_session(void)
 {
     struct wko_session s = wko_fresh();
     s.begun = (uint8_t)(random_below(4) ? 1 : random64());
+    s.version = (uint8_t)(random_below(4) ? 1 + random_below(2) : random64());
+    s.round = (uint8_t)(random_below(4) ? random_below(4) : random64());
     s.n = random_below(8) ? 1 + random_below(16) : random64() >> random_below(64);
     s.rule = (uint8_t)(random_below(8) ? 1 + random_below(3) : random64());
     s.setting = random_setting(random_below(2) == 0);
@@ -228,7 +270,7 @@ static struct wko_session random_session(void)
         random_window(s.rule, s.n >= 1 && s.n <= 16 ? (int)s.n : 16, s.window);
     else
         wko_put_number(s.window + random_below(8), 8, random64());
-    s.done = random_below(4) ? random_below(100) : random64() >> random_below(64);
+    s.done = random_below(4) ? random_below(random_below(2) ? 2 : 100) : random64() >> random_below(64);
     if (random_below(4) == 0 && s.n >= 1 && s.n <= 16)
         s.done = ref_count((int)s.n) + random_below(3) - 1;
     random_table(s.held);
@@ -241,9 +283,15 @@ static void history(int small)
     uint8_t f[64] = {0};
     if (random_below(2))
         load_random(&s);
-    begin_frame(f, small);
-    if (random_below(2))
+    if (random_below(4))
+        begin_frame(f, small);
+    else
+        begin_again_frame(f, &s);
+    for (uint64_t times = random_below(3); times > 0; times--) {
         check_frame(&s, f, 40, 40);
+        if (random_below(4) == 0)
+            load_random(&s);
+    }
     for (int k = 0; k < (small ? 24 : 8); k++) {
         if (random_below(8) == 0)
             load_random(&s);
@@ -252,21 +300,24 @@ static void history(int small)
     }
 }
 
-/* Each refusal of a frame and each answer to a file is met, and steps on a table are. */
+/* Each refusal of a frame and each answer to a file is met, and steps on a table, steps of WKO2 and resends of its begin frame are. */
 static void histories(long rounds)
 {
     for (long k = 0; k < rounds; k++) {
         history(1);
         history(0);
     }
-    for (int k = 0; k <= 12; k++)
-        CHECK(seen[k] > 0, "no frame came to %d", k);
+    for (int k = 0; k <= 19; k++)
+        CHECK(seen[k] > 0 || (k > 12 && k < 17), "no frame came to %d", k);
     CHECK(seen_loads[0] > 0 && seen_loads[1] > 0, "no file came to %d", seen_loads[0] > 0 ? 16 : 0);
     CHECK(seen_table_steps > rounds, "only %ld steps were on a table", seen_table_steps);
+    CHECK(seen_round_steps > rounds, "only %ld steps were WKO2", seen_round_steps);
+    CHECK(seen_again > rounds / 4, "only %ld begin frames came again", seen_again);
 }
 
-/* A session as a device may have kept it, with every value of its first byte: 1 has begun, the others have not and stay as they are. */
-static void check_begun_bytes(void)
+/* A session as a device may have kept it, with every value of its first byte: 1 has begun, the others have not and stay as they are. Round 0 is
+ * WKO1. */
+static void check_begun_bytes(int round)
 {
     const struct wko_setting setting = {-1000, 100, {0}};
     const uint8_t start[3] = {2, 0, 1};
@@ -274,6 +325,9 @@ static void check_begun_bytes(void)
     wko_build_begin(begin, 3, 2, setting, start);
     wko_build_query(query);
     wko_build_step(step, 1);
+    in_round(round, begin);
+    in_round(round, query);
+    in_round(round, step);
     for (int byte = 0; byte < 256; byte++) {
         struct wko_session s = wko_exchange(wko_fresh(), begin, 40, answer_page, 40).session;
         CHECK(s.begun == 1, "an accepted begin frame leaves %d", s.begun);
@@ -288,7 +342,7 @@ static void check_begun_bytes(void)
 /* A session kept after a step that left the heights 0 to 15, the height d newest: the step sent again is answered with the level of d. */
 static void check_level(int d, int top, int spacing)
 {
-    struct wko_session s = {1, 16, 2, {(int16_t)top, (uint16_t)spacing, {0}}, {0}, 1, {0}};
+    struct wko_session s = {1, 1, 0, 16, 2, {(int16_t)top, (uint16_t)spacing, {0}}, {0}, 1, {0}};
     uint8_t step[40];
     for (int i = 0; i < 16; i++)
         s.window[i] = (uint8_t)((d + 1 + i) % 16);
@@ -340,7 +394,7 @@ static const uint8_t zeros[WKO_LEVELS * sizeof(int16_t)];
 
 static struct wko_session kept_round(void)
 {
-    struct wko_session s = {1, 3, 2, {0, 0, {0}}, {2, 0, 1}, 2, {0}};
+    struct wko_session s = {1, 1, 0, 3, 2, {0, 0, {0}}, {2, 0, 1}, 2, {0}};
     memcpy(s.setting.table, first_table, sizeof first_table);
     return s;
 }
@@ -482,7 +536,7 @@ static void loads_between_steps(int rule)
 /* The level of each d: a session kept with d newest of 16 different symbols, and a table that is random. */
 static void check_table_level(int rule, int d)
 {
-    struct wko_session s = {1, 16, (uint8_t)rule, {0, 0, {0}}, {0}, 1, {0}};
+    struct wko_session s = {1, 1, 0, 16, (uint8_t)rule, {0, 0, {0}}, {0}, 1, {0}};
     good_table(s.setting.table);
     random_table(s.held);
     for (int i = 0; i < 16; i++)
@@ -523,6 +577,412 @@ static void check_tables(void)
     check_entries(0, INT16_MIN, INT16_MAX);
     check_entries(8, -10100, -900);
     check_entries(15, -12100, -11900);
+}
+
+/* Document 02, Paper 6. The session of kept_round with another version and round; and frames, where round 0 is WKO1. */
+static struct wko_session kept_as(int version, int round)
+{
+    struct wko_session s = kept_round();
+    s.version = (uint8_t)version;
+    s.round = (uint8_t)round;
+    return s;
+}
+
+static uint8_t *begin_of(int round, int top, int spacing)
+{
+    return in_round(round, begin_at(top, spacing));
+}
+
+static uint8_t *step_of(int round, uint64_t number)
+{
+    static uint8_t frame[40];
+    wko_build_step(frame, number);
+    return in_round(round, frame);
+}
+
+/* A query has no round number: any but 0 stands for WKO2. */
+static uint8_t *query_of(int round)
+{
+    static uint8_t frame[40];
+    wko_build_query(frame);
+    return in_round(round, frame);
+}
+
+static uint8_t *changed(uint8_t *f, int at, int value)
+{
+    f[at] = (uint8_t)value;
+    return f;
+}
+
+/* A frame of 40 bytes is refused, in its own version, and changes nothing. */
+static void refuse(struct wko_session *s, const uint8_t *f, int number, const char *what)
+{
+    const uint8_t want[40] = {'W', 'K', 'A', number > 3 && f[3] == '2' ? '2' : '1', (uint8_t)number};
+    const struct wko_session before = *s;
+    CHECK(number_of(s, f) == number, "%s is not %d", what, number);
+    CHECK(memcmp(at_end(answer_page, 40), want, 40) == 0, "%s: another answer of refusal %d", what, number);
+    CHECK(same_session(s, &before), "%s changes the session", what);
+}
+
+/* A begin frame begins a round of its version and number, with no step done. */
+static void begins(struct wko_session *s, const uint8_t *f, const char *what)
+{
+    CHECK(number_of(s, f) == 0 && s->begun == 1 && s->done == 0, "%s does not begin a round", what);
+    CHECK(s->version == (f[3] == '2' ? 2 : 1) && s->round == f[7], "%s leaves version %d and round %d", what, s->version, s->round);
+    CHECK(memcmp(s->window, f + 24, 16) == 0, "%s leaves another window", what);
+}
+
+/* What the library answers to a frame, byte for byte. */
+static void check_answer(struct wko_session *s, const uint8_t *f, const uint8_t *answer, const char *what)
+{
+    CHECK(number_of(s, f) == 0 && memcmp(at_end(answer_page, 40), answer, 40) == 0, "the bytes of the answer to %s", what);
+}
+
+/* The bytes of WKO2 frames and of their answers, written out. */
+static void version_2_bytes(void)
+{
+    static const uint8_t begin[40] = {'W', 'K', 'O', '2', 'B', 3, 2, 7, 0, 0, 0, 0, 0, 0, 0, 0, 24, 252, 44, 1, 0, 0, 0, 0, 2, 0, 1};
+    static const uint8_t step[40] = {'W', 'K', 'O', '2', 'S', 0, 0, 7, 1}, query[40] = {'W', 'K', 'O', '2', 'Q'};
+    static const uint8_t begun[40] = {'W', 'K', 'A', '2', 0, 0, 3, 7, 0, 0, 0, 0, 0, 0, 0, 0, 0, 0, 0, 0, 0, 0, 0, 0, 2, 0, 1};
+    static const uint8_t stepped[40] = {'W', 'K', 'A', '2', 0, 1, 2, 7, 1, 0, 0, 0, 0, 0, 0, 0, 236, 250, 255, 255, 0, 0, 0, 0, 0, 1, 1};
+    static const uint8_t asked[40] = {'W', 'K', 'A', '2', 0, 0, 2, 7, 1, 0, 0, 0, 0, 0, 0, 0, 0, 0, 0, 0, 0, 0, 0, 0, 0, 1, 1};
+    struct wko_session s = wko_fresh();
+    struct wko_answer read;
+    uint8_t other[40];
+    CHECK(memcmp(begin_of(7, -1000, 300), begin, 40) == 0, "the bytes of a WKO2 begin frame");
+    CHECK(memcmp(step_of(7, 1), step, 40) == 0, "the bytes of a WKO2 step frame");
+    CHECK(memcmp(query_of(7), query, 40) == 0, "the bytes of a WKO2 query frame");
+    check_answer(&s, begin, begun, "a WKO2 begin frame");
+    check_answer(&s, begin, begun, "that frame again");
+    check_answer(&s, step, stepped, "a WKO2 step frame");
+    check_answer(&s, query, asked, "a WKO2 query frame");
+    check_answer(&s, step, stepped, "that step again");
+    CHECK(wko_read_answer(&read, stepped, 40) == 1 && read.version == 2 && read.round == 7 && read.refusal == 0, "a WKA2 answer is read");
+    CHECK(read.symbol == 1 && read.different == 2 && read.done == 1 && read.level == -1300, "the numbers of a WKA2 answer");
+    memcpy(other, stepped, 40);
+    CHECK(wko_read_answer(&read, changed(other, 3, '3'), 40) == 0 && wko_read_answer(&read, changed(other, 3, '0'), 40) == 0, "WKA3 is not read");
+    CHECK(wko_read_answer(&read, stepped, 39) == 0 && wko_read_answer(&read, step, 40) == 0, "what is no WKA2 answer is not read");
+}
+
+/* Lengths and headers are refused as WKA1, all else in the frame's version. */
+static void answer_headers(void)
+{
+    static const uint8_t refused_2[40] = {'W', 'K', 'A', '1', 2}, refused_4[40] = {'W', 'K', 'A', '2', 4};
+    struct wko_session s = kept_as(2, 7);
+    uint8_t f[64] = {0};
+    memcpy(f, step_of(7, 3), 40);
+    for (size_t len = 0; len < sizeof f; len++)
+        if (len != 40) {
+            check_frame(&s, f, len, 40);
+            CHECK(memcmp(at_end(answer_page, 40), refused_2, 40) == 0, "the answer to %d bytes of WKO2", (int)len);
+        }
+    for (int byte = 0; byte < 256; byte++) {
+        if (byte != '1' && byte != '2')
+            refuse(&s, changed(step_of(7, 3), 3, byte), 3, "another version");
+        if (byte != 'B' && byte != 'S' && byte != 'Q') {
+            refuse(&s, changed(step_of(7, 3), 4, byte), 4, "another kind in WKO2");
+            CHECK(memcmp(at_end(answer_page, 40), refused_4, 40) == 0, "the answer to the kind %d in WKO2", byte);
+        }
+    }
+    CHECK(s.done == 2, "a step is done");
+}
+
+/* Test 5 of byte 7, by the frame's own version, and in front of all that asks for the session. */
+static void round_byte(void)
+{
+    struct wko_session fresh = wko_fresh(), first = kept_as(1, 7), second = kept_as(2, 7);
+    struct wko_session *const sessions[] = {&fresh, &first, &second};
+    for (int k = 0; k < 3; k++) {
+        refuse(sessions[k], changed(begin_of(7, -1000, 300), 7, 0), 5, "a WKO2 begin frame with round 0");
+        refuse(sessions[k], changed(step_of(7, 3), 7, 0), 5, "a WKO2 step with round 0");
+        refuse(sessions[k], changed(begin_of(0, -1000, 300), 7, 7), 5, "a WKO1 begin frame with a round number");
+        refuse(sessions[k], changed(step_of(0, 3), 7, 7), 5, "a WKO1 step with a round number");
+        refuse(sessions[k], changed(query_of(0), 7, 7), 5, "a WKO1 query with a round number");
+        refuse(sessions[k], changed(query_of(7), 7, 7), 5, "a WKO2 query with a round number");
+        for (int at = 5; at < 40; at++) {
+            refuse(sessions[k], changed(query_of(7), at, 1), 5, "a WKO2 query with another byte");
+            if (at < 7 || at > 15)
+                refuse(sessions[k], changed(step_of(7, 3), at, 1), 5, "a WKO2 step with another byte");
+            if ((at > 7 && at < 16) || (at > 19 && at < 24))
+                refuse(sessions[k], changed(begin_of(7, -1000, 300), at, 1), 5, "a WKO2 begin frame with another byte");
+        }
+    }
+}
+
+/* Every value of the version in a session that is kept: 2 is WKO2, any other WKO1, where the round is of no account. Steps keep both. */
+static void version_bytes(void)
+{
+    for (int byte = 0; byte < 256; byte++)
+        for (int round = 0; round <= 7; round += 7) {
+            struct wko_session s = kept_as(byte, 7);
+            int want = (byte == 2) == (round == 7) ? 0 : 17;
+            CHECK(number_of(&s, query_of(round)) == want, "a query of round %d, where the version is %d", round, byte);
+            CHECK(number_of(&s, step_of(round, 2)) == want, "a step again of round %d, where the version is %d", round, byte);
+            CHECK(number_of(&s, step_of(round, 3)) == want, "a step of round %d, where the version is %d", round, byte);
+            CHECK(s.version == byte && s.round == 7 && s.done == (want == 0 ? 3 : 2), "the session where the version is %d", byte);
+        }
+    for (int byte = 0; byte < 256; byte++) {
+        struct wko_session s = kept_as(1, byte);
+        CHECK(number_of(&s, step_of(0, 3)) == 0 && s.done == 3, "a step of a WKO1 round where the round is %d", byte);
+        CHECK(at_end(answer_page, 40)[7] == 0 && s.version == 1 && s.round == byte, "the round %d beside a WKO1 round", byte);
+    }
+}
+
+/* A WKO2 round kept with the number 0 has not begun, and any begin frame begins. */
+static void round_0(void)
+{
+    for (int round = 1; round < 256; round++) {
+        struct wko_session s = kept_as(2, 0);
+        s.done = (uint64_t)round % 3;
+        refuse(&s, query_of(0), 10, "a WKO1 query of round 0");
+        refuse(&s, query_of(round), 10, "a WKO2 query of round 0");
+        refuse(&s, step_of(0, s.done + 1), 10, "a WKO1 step of round 0");
+        refuse(&s, step_of(round, s.done + 1), 10, "a WKO2 step of round 0");
+        refuse(&s, begin_of(round, 0, 0), 9, "a begin frame asks for a table in round 0");
+        begins(&s, begin_of(round % 2 ? round : 0, 0, 25), "a begin frame in round 0");
+    }
+}
+
+/* 5 before 10 before 17 before 18 before 11 before 12. */
+static void order_of_steps(void)
+{
+    struct wko_session first = kept_as(1, 7), second = kept_as(2, 7), none = kept_as(2, 7);
+    none.begun = 0;
+    refuse(&none, changed(step_of(9, 9), 7, 0), 5, "no round, and round number 0");
+    refuse(&none, step_of(0, 9), 10, "no round, another version and number");
+    refuse(&none, step_of(9, 9), 10, "no round, another round and number");
+    refuse(&none, query_of(0), 10, "no round, and a query in another version");
+    refuse(&first, changed(step_of(9, 9), 7, 0), 5, "another version, and round number 0");
+    refuse(&first, step_of(9, 9), 17, "a WKO2 step in a WKO1 round: another round and number");
+    refuse(&first, step_of(7, 3), 17, "a WKO2 step in a WKO1 round: the next number");
+    refuse(&second, step_of(0, 9), 17, "a WKO1 step in a WKO2 round: another number");
+    refuse(&second, step_of(0, 3), 17, "a WKO1 step in a WKO2 round: the next number");
+    refuse(&second, step_of(9, 9), 18, "another round and number");
+    refuse(&second, step_of(9, 0), 18, "another round and step 0");
+    refuse(&second, step_of(9, 3), 18, "another round");
+    refuse(&second, step_of(9, 2), 18, "another round, the last number again");
+    refuse(&second, step_of(7, 9), 11, "another number");
+    refuse(&second, step_of(7, 0), 11, "step 0");
+    second.done = 13;
+    refuse(&second, step_of(0, 14), 17, "a WKO1 step behind the last");
+    refuse(&second, step_of(9, 14), 18, "a step of another round behind the last");
+    refuse(&second, step_of(7, 15), 11, "a step two behind the last");
+    refuse(&second, step_of(7, 14), 12, "a step behind the last");
+    CHECK(number_of(&second, step_of(7, 13)) == 0 && number_of(&second, query_of(7)) == 0, "a finished round is answered");
+}
+
+/* Every round number but the round's own is another, and a step of it comes late: nothing moves, and the round goes on. */
+static void late_steps(void)
+{
+    for (int round = 1; round < 256; round++) {
+        struct wko_session s = wko_fresh();
+        begins(&s, begin_of(round, 0, 25), "a begin frame");
+        for (int other = 1; other < 256; other++)
+            if (other != round)
+                refuse(&s, step_of(other, 1), 18, "a late step");
+        CHECK(number_of(&s, step_of(round, 1)) == 0 && s.done == 1, "a step of round %d", round);
+        CHECK(at_end(answer_page, 40)[7] == round && s.round == round, "the number of round %d in an answer", round);
+        begins(&s, begin_of(round % 255 + 1, 0, 25), "the next round");
+        refuse(&s, step_of(round, 1), 18, "a step of the round before");
+        refuse(&s, step_of(round, 2), 18, "the next step of the round before");
+    }
+}
+
+/* The begin frame in force again: the same answer, and nothing changes, whatever table is held by now. The round goes by its copy. */
+static void begin_again(void)
+{
+    static const int16_t none[WKO_LEVELS];
+    static const int16_t *const held[] = {first_table, second_table, none, first_table};
+    for (int k = 0; k < 4; k++)
+        for (int spacing = 0; spacing <= 25; spacing += 25) {
+            struct wko_session s = wko_fresh(), begun;
+            uint8_t answer[40];
+            load_table(&s, first_table);
+            begins(&s, begin_of(7, 0, spacing), "a begin frame");
+            memcpy(answer, at_end(answer_page, 40), 40);
+            memcpy(s.held, held[k], sizeof s.held);
+            s.held[0] = (int16_t)(s.held[0] - (k == 3));
+            begun = s;
+            for (int times = 0; times < 3; times++) {
+                check_answer(&s, begin_of(7, 0, spacing), answer, "the begin frame in force");
+                CHECK(same_session(&s, &begun), "the begin frame in force changes the session, table %d", k);
+            }
+            CHECK(number_of(&s, step_of(7, 1)) == 0 && s.done == 1, "a step behind it");
+            CHECK((int16_t)wko_get_number(at_end(answer_page, 40) + 16, 2) == (spacing ? -25 * s.window[2] : first_table[s.window[2]]),
+                  "the level by the copy, table %d", k);
+        }
+}
+
+/* The begin frame in force with one byte changed: what it comes to. 0 begins another round. */
+static void begin_changed(void)
+{
+    static const struct { int at, value, number; } changes[] = {
+        {0, 'w', 3}, {3, '1', 5}, {3, '3', 3}, {4, 'b', 4}, {4, 'S', 5}, {4, 'Q', 5}, {5, 0, 6}, {5, 17, 6}, {5, 1, 8}, {5, 2, 19},
+        {5, 4, 19}, {5, 16, 19}, {6, 0, 7}, {6, 1, 8}, {6, 3, 19}, {6, 4, 7}, {7, 0, 5}, {7, 6, 0}, {7, 255, 0}, {8, 1, 5},
+        {15, 128, 5}, {16, 25, 19}, {17, 251, 19}, {17, 0, 19}, {17, 127, 9}, {18, 45, 19}, {18, 0, 19}, {19, 0, 19}, {19, 2, 9},
+        {20, 1, 5}, {23, 1, 5}, {24, 1, 19}, {24, 2, 19}, {24, 3, 8}, {25, 0, 19}, {25, 2, 8}, {26, 1, 19}, {26, 2, 19}, {26, 3, 8},
+        {27, 1, 8}, {39, 1, 8}};
+    const struct wko_setting setting = {-1000, 300, {0}};
+    const uint8_t start[3] = {0, 1, 0};
+    uint8_t f[40], other[40];
+    wko_build_begin(f, 3, 2, setting, start);
+    wko_set_round(f, 7);
+    for (size_t k = 0; k < sizeof changes / sizeof *changes; k++)
+        for (int steps = 0; steps < 2; steps++) {
+            struct wko_session s = wko_fresh();
+            CHECK(number_of(&s, f) == 0 && (steps == 0 || number_of(&s, step_of(7, 1)) == 0), "a round");
+            memcpy(other, f, 40);
+            changed(other, changes[k].at, changes[k].value);
+            if (changes[k].number != 0)
+                refuse(&s, other, changes[k].number, "a begin frame with a byte changed");
+            else
+                begins(&s, other, "a begin frame with another round number");
+        }
+}
+
+/* Each byte as it is and changed to each value, with no step done and with one, on a table or not. */
+static void begin_with_each_byte(int top, int spacing, int steps)
+{
+    for (int at = 0; at < 40; at++)
+        for (int value = 0; value < 256; value++) {
+            struct wko_session s = wko_fresh();
+            uint8_t *f;
+            int again, number;
+            load_table(&s, first_table);
+            begins(&s, begin_of(7, top, spacing), "a begin frame");
+            CHECK(steps == 0 || number_of(&s, step_of(7, 1)) == 0, "a step");
+            f = begin_of(7, top, spacing);
+            again = f[at] == value;
+            number = number_of(&s, changed(f, at, value));
+            if (again)
+                CHECK(number == (steps == 0 ? 0 : 19), "the begin frame in force with %d steps done comes to %d", steps, number);
+            else
+                CHECK((number == 0) == (at == 7 && value != 0), "the begin frame in force with %d at %d comes to %d", value, at, number);
+        }
+}
+
+/* With a step done the begin frame in force is refused as any other with its number, behind 6 to 9. 9 looks at the table that is held. */
+static void begin_after_a_step(void)
+{
+    struct wko_session s = kept_as(2, 7), even = wko_fresh();
+    refuse(&s, begin_of(7, 0, 0), 9, "no table held, and the number in force");
+    s.held[0] = 1;
+    refuse(&s, begin_of(7, 0, 0), 9, "a bad table held, and the number in force");
+    memcpy(s.held, first_table, sizeof s.held);
+    refuse(&s, begin_of(7, 0, 0), 19, "the begin frame in force, with a step done");
+    refuse(&s, changed(begin_of(7, 0, 0), 5, 17), 6, "n, and the number in force");
+    refuse(&s, changed(begin_of(7, 0, 0), 6, 4), 7, "the rule, and the number in force");
+    refuse(&s, changed(begin_of(7, 0, 0), 24, 3), 8, "the window, and the number in force");
+    refuse(&s, begin_of(7, 25, 0), 9, "the level setting, and the number in force");
+    refuse(&s, begin_of(7, -1000, 300), 19, "another round with the number in force");
+    CHECK(number_of(&s, step_of(7, 3)) == 0 && s.done == 3, "the round goes on");
+    begins(&even, begin_of(7, -1000, 300), "an even round");
+    refuse(&even, begin_of(7, 0, 0), 9, "no table held, with no step done");
+    CHECK(number_of(&even, step_of(7, 1)) == 0, "a step of an even round");
+    refuse(&even, begin_of(7, -1000, 300), 19, "the begin frame in force, with a step done in an even round");
+    even.done = 13;
+    refuse(&even, begin_of(7, -1000, 300), 19, "the begin frame in force, with the round finished");
+    begins(&even, begin_of(8, -1000, 300), "another number");
+    begins(&even, begin_of(7, -1000, 300), "the number of the round before");
+}
+
+/* A WKO1 round has no number, so that any is free, also the one that stands beside it; and WKO1 begins at any time. */
+static void versions_meet(void)
+{
+    for (int done = 0; done <= 2; done++) {
+        struct wko_session s = kept_as(1, 7);
+        s.done = (uint64_t)done;
+        refuse(&s, begin_of(7, 0, 0), 9, "no table is held for a WKO2 round");
+        memcpy(s.held, second_table, sizeof s.held);
+        begins(&s, begin_of(7, 0, 0), "a WKO2 begin frame in a WKO1 round");
+        CHECK(memcmp(s.setting.table, second_table, sizeof second_table) == 0, "that round has a copy of the table that is held");
+        s = kept_as(2, 7);
+        s.done = (uint64_t)done;
+        begins(&s, begin_of(0, 0, 25), "a WKO1 begin frame in a WKO2 round");
+        refuse(&s, step_of(7, 1), 17, "a late step of the WKO2 round");
+        CHECK(number_of(&s, step_of(0, 1)) == 0 && number_of(&s, query_of(0)) == 0, "the WKO1 round goes on");
+        begins(&s, begin_of(0, 0, 25), "the same WKO1 begin frame with a step done");
+        begins(&s, begin_of(7, 0, 25), "the number is free");
+        refuse(&s, step_of(0, 1), 17, "a late step of the WKO1 round");
+    }
+}
+
+/* Where a session counts as not begun no round is in force, and its begin frame begins anew, by the table that is held. */
+static void none_in_force(void)
+{
+    for (int what = 0; what < 4; what++) {
+        struct wko_session s = kept_as(2, 7);
+        s.done = what == 0 ? 14 : 0;
+        s.begun = what == 1 ? 2 : 1;
+        s.setting.table[3] = (int16_t)(s.setting.table[3] + 5 * (what == 2));
+        s.window[3] = what == 3;
+        refuse(&s, query_of(7), 10, "a session that does not count as begun");
+        refuse(&s, begin_of(7, 0, 0), 9, "its begin frame, with no table held");
+        memcpy(s.held, second_table, sizeof s.held);
+        begins(&s, begin_of(7, 0, 0), "its begin frame, with a table held");
+        CHECK(memcmp(s.setting.table, second_table, sizeof second_table) == 0, "that round has a copy of the table that is held");
+    }
+}
+
+/* What a hub may deliver while a round stands at k steps: frames of the round before and of WKO1, and the begin frame once steps are done. */
+static void deliver_late(struct wko_session *s, const uint8_t *begin, int round, uint64_t k)
+{
+    refuse(s, step_of(round - 1, k), 18, "the last step's number, of the round before");
+    refuse(s, step_of(round - 1, k + 1), 18, "the next step's number, of the round before");
+    refuse(s, step_of(0, k + 1), 17, "a WKO1 step");
+    refuse(s, query_of(0), 17, "a WKO1 query");
+    load_table(s, k % 2 ? first_table : second_table);
+    load_random(s);
+    if (k > 0)
+        refuse(s, begin, 19, "the begin frame, late");
+}
+
+/* The same two rounds on two benches. One gets each frame once; the other each frame twice, late frames and level files between, and answers the
+ * same. It starts anyhow: a WKO1 begin frame leaves no round number in force. */
+static void two_benches(int rule)
+{
+    const struct wko_setting setting = {0, 0, {0}};
+    const uint8_t first = rule == 1, start[4] = {first, first, first, first};
+    struct wko_session a = wko_fresh(), b = random_session();
+    uint8_t begin[40], frame[40], answer[40];
+    begins(&b, begin_of(0, 0, 25), "a WKO1 begin frame");
+    for (int round = 8; round <= 9; round++) {
+        load_table(&a, first_table);
+        load_table(&b, first_table);
+        wko_build_begin(begin, 4, (uint8_t)rule, setting, start);
+        wko_set_round(begin, (uint8_t)round);
+        for (uint64_t k = 0; k <= 75; k++) {
+            memcpy(frame, k == 0 ? begin : step_of(round, k), 40);
+            CHECK(number_of(&a, frame) == 0 && a.done == k, "bench A steps to %d", (int)k);
+            memcpy(answer, at_end(answer_page, 40), 40);
+            for (int times = 0; times < 2; times++) {
+                check_answer(&b, frame, answer, "a frame of bench A, on bench B");
+                deliver_late(&b, begin, round, k);
+            }
+        }
+    }
+}
+
+static void check_versions(void)
+{
+    version_2_bytes();
+    answer_headers();
+    round_byte();
+    version_bytes();
+    round_0();
+    order_of_steps();
+    late_steps();
+    begin_again();
+    begin_changed();
+    for (int steps = 0; steps < 2; steps++) {
+        begin_with_each_byte(0, 0, steps);
+        begin_with_each_byte(-1000, 300, steps);
+    }
+    begin_after_a_step();
+    versions_meet();
+    none_in_force();
+    for (int rule = 1; rule <= 3; rule++)
+        two_benches(rule);
 }
 
 static const char good_file[] = "d level\n0 2000\n1 1975\n2 1000\n3 25\n4 0\n5 -25\n6 -100\n7 -1000\n8 -2500\n9 -9975\n10 -10000\n11 -10500\n"
@@ -680,11 +1140,14 @@ int main(void)
     answer_page = guarded_page();
     file_page = guarded_page();
     CHECK(!fresh.begun && fresh.done == 0 && !model_has_begun(&fresh), "a fresh session has not begun");
+    CHECK(fresh.version == 1 && fresh.round == 0, "a fresh session has version %d and round %d", fresh.version, fresh.round);
     histories(50000);
     check_bytes();
-    check_begun_bytes();
+    check_begun_bytes(0);
+    check_begun_bytes(7);
     check_levels();
     check_tables();
+    check_versions();
     check_files();
     return report("session");
 }

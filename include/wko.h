@@ -17,7 +17,7 @@
 #include <stddef.h>
 #include <stdint.h>
 
-#define WKO_LIBRARY_VERSION "3.1.0"
+#define WKO_LIBRARY_VERSION "4.0.0"
 #define WKO_MAX_N 16     /* symbols of the longest window */
 #define WKO_FRAME_LEN 40 /* bytes of a frame, and of its answer */
 #define WKO_OPEN 255     /* an open place of a pattern */
@@ -40,7 +40,10 @@ enum wko_refusal {
     WKO_NO_SUCH_PLACE = 13,
     WKO_SHEET_MALFORMED = 14,
     WKO_NO_FILLING = 15,
-    WKO_LEVEL_FILE = 16
+    WKO_LEVEL_FILE = 16,
+    WKO_OTHER_VERSION = 17,
+    WKO_OTHER_ROUND = 18,
+    WKO_ROUND_IN_FORCE = 19
 };
 
 /* A refusal in words; 0 is none. */
@@ -50,9 +53,9 @@ static inline const char *wko_refusal_text(uint32_t number)
         "not refused",
         "the buffer is too short",
         "the frame is not 40 bytes long",
-        "the frame does not start with WKO1",
+        "the frame does not start with WKO1 or WKO2",
         "the kind of the frame is not B, S or Q",
-        "a byte of the frame that must be zero is not",
+        "a byte of the frame that must be zero is not, or the round number is zero",
         "n is out of range",
         "the rule is not 1, 2 or 3",
         "the window is no weak order of n in the form that is asked for, or the pattern is none of n",
@@ -64,6 +67,9 @@ static inline const char *wko_refusal_text(uint32_t number)
         "the sheet is malformed",
         "no weak order of n agrees with the pattern",
         "the level file is not as described",
+        "the frame is in another version than the round's begin frame",
+        "the step is of another round",
+        "the round number is that of the round in force",
     };
     return number < sizeof texts / sizeof texts[0] ? texts[number] : "no refusal has this number";
 }
@@ -137,10 +143,11 @@ uint32_t wko_fill(uint64_t n, const uint8_t *pattern, size_t pattern_len, uint8_
  * For firmware: a session driven by frames of 40 bytes. wko_frames.h builds frames and reads answers.
  *
  * A session goes in by value and comes back by value; the caller keeps it where it likes. Any values of the fields may be handed in:
- * a session whose n, rule, window or level setting a begin frame would be refused for, or with more than a(n) steps done, counts as
- * not begun. Sessions are changed by frames and level files alone; the fields are there to be kept and looked at. Keep them field by field:
- * the bytes between the fields are not defined. Keep a checksum beside them, since a session with a flipped bit can be another good session.
- * Keep the session before the answer is sent: a device that answers first and then loses power comes back one step behind its host.
+ * a session whose n, rule, window or level setting a begin frame would be refused for, or with more than a(n) steps done, or with version 2
+ * and round 0, counts as not begun. Sessions are changed by frames and level files alone; the fields are there to be kept and looked at. Keep
+ * them field by field: the bytes between the fields are not defined. Keep a checksum beside them, since a session with a flipped bit can be
+ * another good session. Keep the session before the answer is sent: a device that answers first and then loses power comes back one step
+ * behind its host.
  *
  * Let d be symbol - 1 under rule 1, and the symbol itself under rules 2 and 3. The level of the symbol is the multiple of 25 nearest to
  * top - d * spacing: -13 rounds to -25, -12 and 12 to 0. The smallest symbol has the highest level, and different symbols have different
@@ -159,7 +166,9 @@ struct wko_setting {
 };
 
 struct wko_session {
-    uint8_t begun; /* 1: a round has begun; any other value: none has */
+    uint8_t begun;   /* 1: a round has begun; any other value: none has */
+    uint8_t version; /* of the begin frame: 2 is WKO2, any other value WKO1 */
+    uint8_t round;   /* the round number of a WKO2 round, 1 to 255; of no account in a WKO1 round, whatever it is */
     size_t n;
     uint8_t rule;
     struct wko_setting setting;
@@ -170,7 +179,7 @@ struct wko_session {
 
 struct wko_exchanged {
     struct wko_session session; /* the session after the frame; unchanged where the frame is refused */
-    uint32_t number;            /* 0, or the number of the refusal, 1 to 12 */
+    uint32_t number;            /* 0, or the number of the refusal, 1 to 12 or 17 to 19 */
 };
 
 struct wko_loaded {
@@ -178,7 +187,7 @@ struct wko_loaded {
     uint32_t number;            /* 0, or 16 */
 };
 
-/* A session that has not begun, and holds no table. */
+/* A session that has not begun, and holds no table: version 1, round 0. */
 struct wko_session wko_fresh(void);
 
 /*
@@ -193,24 +202,33 @@ struct wko_loaded wko_load_levels(struct wko_session session, const uint8_t *fil
 /*
  * Handles one frame of any length and writes its answer to the first 40 bytes of the buffer; bytes past 40 are never touched.
  * Numbers are little-endian. Where a column has 0, the bytes must be zero (refusal 5; in a start window 8) and are zero in an answer.
+ * Frames have two versions: where a column has two entries, the first is for WKO1 and the second for WKO2.
  *
- *   bytes   begin            step          query   answer
- *   0-3     WKO1             WKO1          WKO1    WKA1
- *   4       B                S             Q       0
- *   5       n                0             0       symbol (step), else 0
- *   6       rule             0             0       number of different symbols in the window
- *   7       0                0             0       0
- *   8-15    0                step number   0       steps done
- *   16-17   top, signed      0             0       16-19: level, signed (step), else 0
+ *   bytes   begin            step          query        answer
+ *   0-3     WKO1 / WKO2      WKO1 / WKO2   WKO1 / WKO2  WKA1 / WKA2
+ *   4       B                S             Q            0
+ *   5       n                0             0            symbol (step), else 0
+ *   6       rule             0             0            number of different symbols in the window
+ *   7       0 / round        0 / round     0            0 / round
+ *   8-15    0                step number   0            steps done
+ *   16-17   top, signed      0             0            16-19: level, signed (step), else 0
  *   18-19   spacing          0             0
- *   20-23   0                0             0       0
- *   24-39   start, 0 behind  0             0       window after the frame, 0 behind
+ *   20-23   0                0             0            0
+ *   24-39   start, 0 behind  0             0            window after the frame, 0 behind
  *
- * The answer to a refused frame is WKA1, the number of the refusal and 35 zeros, and the session stays as it was.
  * A step frame numbered done + 1 steps; one numbered done, at least 1, is a resend: it changes nothing and gets the same answer.
- * Refused, in this order: 1 buffer under 40 bytes (nothing is written); 2 frame not 40 bytes; 3 not WKO1; 4 kind unknown; 5 a byte
- * that must be zero is not; then begin: 6 n, 7 rule, 8 window, 9 level setting; step and query: 10 not begun; step: 11 number,
- * 12 round finished.
+ *
+ * The round number of a WKO2 frame is 1 to 255; 0 is refused (5). A round is stepped and queried by frames of the version that began it (17),
+ * and in WKO2 by steps with its number alone (18): a step that comes late, when another round has begun, moves nothing. A WKO1 begin frame
+ * begins a round at any time. The WKO2 round in force is the session's, where it counts as begun and version is 2. A WKO2 begin frame with
+ * another number begins a round; one with the number in force is refused (19), unless no step is done and all its bytes are those of the begin
+ * frame in force: then it is a resend, changes nothing, takes no table that was loaded since, and gets the same answer.
+ *
+ * The answer to a refused frame is WKA1, or WKA2 where the frame is WKO2 and 40 bytes long, the number of the refusal and 35 zeros, and the
+ * session stays as it was.
+ * Refused, in this order: 1 buffer under 40 bytes (nothing is written); 2 frame not 40 bytes; 3 neither WKO1 nor WKO2; 4 kind unknown; 5 a
+ * byte that must be zero is not, or round number 0; then begin, unless it is a resend: 6 n, 7 rule, 8 window, 9 level setting, 19 round in
+ * force; step and query: 10 not begun, 17 other version; step: 18 other round, 11 number, 12 round finished.
  */
 struct wko_exchanged wko_exchange(struct wko_session session, const uint8_t *frame, size_t frame_len, uint8_t *answer, size_t answer_len);
 
@@ -230,7 +248,8 @@ struct wko_exchanged wko_exchange(struct wko_session session, const uint8_t *fra
 #endif
 WKO_LAYOUT(sizeof(struct wko_setting) == 36 && offsetof(struct wko_setting, top) == 0 && offsetof(struct wko_setting, spacing) == 2);
 WKO_LAYOUT(offsetof(struct wko_setting, table) == 4);
-WKO_LAYOUT(sizeof(struct wko_session) == 112 && offsetof(struct wko_session, begun) == 0 && offsetof(struct wko_session, n) == 8);
+WKO_LAYOUT(sizeof(struct wko_session) == 112 && offsetof(struct wko_session, begun) == 0 && offsetof(struct wko_session, version) == 1);
+WKO_LAYOUT(offsetof(struct wko_session, round) == 2 && offsetof(struct wko_session, n) == 8);
 WKO_LAYOUT(offsetof(struct wko_session, rule) == 16 && offsetof(struct wko_session, setting) == 18);
 WKO_LAYOUT(offsetof(struct wko_session, window) == 54 && offsetof(struct wko_session, done) == 72 && offsetof(struct wko_session, held) == 80);
 WKO_LAYOUT(sizeof(struct wko_exchanged) == 120 && offsetof(struct wko_exchanged, session) == 0 && offsetof(struct wko_exchanged, number) == 112);

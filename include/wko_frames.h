@@ -25,7 +25,7 @@ static inline uint64_t wko_get_number(const uint8_t *bytes, int len)
     return number;
 }
 
-/* A frame of a kind, zero behind it: the whole of a query. */
+/* A frame of a kind, zero behind it: the whole of a query. This and the three that follow build WKO1; wko_set_round makes WKO2 of it. */
 static inline void wko_build_frame(uint8_t frame[WKO_FRAME_LEN], char kind)
 {
     memset(frame, 0, WKO_FRAME_LEN);
@@ -58,26 +58,38 @@ static inline void wko_build_query(uint8_t frame[WKO_FRAME_LEN])
     wko_build_frame(frame, 'Q');
 }
 
-/* What an answer says. Where it is a refusal, every field but that is zero. */
+/* Makes a frame that is built one of the second version, WKO2, with a round number, 1 to 255. A query carries no number. */
+static inline void wko_set_round(uint8_t frame[WKO_FRAME_LEN], uint8_t round)
+{
+    frame[3] = '2';
+    if (frame[4] != 'Q')
+        frame[7] = round;
+}
+
+/* What an answer says. Where it is a refusal, every field but that and the version is zero. */
 struct wko_answer {
+    uint8_t version;           /* 1: WKA1; 2: WKA2 */
     uint8_t refusal;           /* 0, or the number of the refusal */
     uint8_t symbol;            /* of the last step, in the answer to a step; else 0 */
     uint8_t different;         /* number of different symbols in the window */
+    uint8_t round;             /* round number, in WKA2; else 0 */
     uint64_t done;             /* steps done */
     int32_t level;             /* of that symbol, in hundredths of a dBm, in the answer to a step; else 0 */
     uint8_t window[WKO_MAX_N]; /* after the frame, zeros behind its n symbols */
 };
 
-/* Reads an answer. Returns 1, or 0 where it is no answer: not 40 bytes, or not WKA1. */
+/* Reads an answer. Returns 1, or 0 where it is no answer: not 40 bytes, or neither WKA1 nor WKA2. */
 static inline int wko_read_answer(struct wko_answer *answer, const uint8_t *bytes, size_t len)
 {
     uint32_t level;
-    if (len != WKO_FRAME_LEN || memcmp(bytes, "WKA1", 4) != 0)
+    if (len != WKO_FRAME_LEN || (memcmp(bytes, "WKA1", 4) != 0 && memcmp(bytes, "WKA2", 4) != 0))
         return 0;
     level = (uint32_t)wko_get_number(bytes + 16, 4);
+    answer->version = bytes[3] == '2' ? 2 : 1;
     answer->refusal = bytes[4];
     answer->symbol = bytes[5];
     answer->different = bytes[6];
+    answer->round = bytes[7];
     answer->done = wko_get_number(bytes + 8, 8);
     answer->level = level <= INT32_MAX ? (int32_t)level : (int32_t)(level - 0x80000000u) + INT32_MIN;
     memcpy(answer->window, bytes + 24, WKO_MAX_N);

@@ -1,15 +1,17 @@
 -- Signed numbers: two's complement of 16 and 32 bits. Assumes nothing.
 use mathlib.Core.Bool.{Bool, true, false, cond}
-use mathlib.Core.Path.{_≡_, refl, ap}
-use Prim.Native.Nat.{ℕ, suc, _-_, _≤_, _<_, _^_}
+use mathlib.Core.List.{[], _∷_}
+use mathlib.Core.Path.{_≡_, refl, ap, ap₂}
+use Prim.Native.Nat.{ℕ, suc, _+_, _-_, _*_, _/_, _%_, _≤_, _<_, _^_}
 use native.Mathlib.Omega.{arith}
 use lib.Dec.{ltb}
 use lib.IntN.{ℤ, pos, negsuc, _+ℤ_, _-ℤ_}
+use lib.ListN.{take}
 use lib.Signed.{ltZ}
 use borrow.Author.Tests.{le-ltb, lt-ltb, ltb-true, ltb-false}
 use mir.Syntax.{w16, w32}
 use mir.Val.{SFits}
-use Rattle.frames.specs.Fields.{bits32, signed16}
+use Rattle.frames.specs.Fields.{signed16, bits16, bits32, bytes16, bytes32}
 
 -- Two's complement.
 pub lifted : (z : ℤ) → SFits w32 z → ltZ z (pos 0) ≡ true → z +ℤ pos 4294967296 ≡ pos (bits32 z)
@@ -38,3 +40,16 @@ signed16-fits x l = fits (ltb x 32768) refl
     fits : (b : Bool) → ltb x 32768 ≡ b → SFits w16 (cond b (pos x) (negsuc (65535 - x)))
     fits true e = record { sfits = omega (arith, ltb-true x 32768 e) }
     fits false e = record { sfits = omega (arith, ltb-false x 32768 e) }
+
+-- of a number of 16 bits, the low two bytes of its 32
+pub low-bytes : (z : ℤ) → SFits w16 z → take 2 (bytes32 (bits32 z)) ≡ bytes16 (bits16 z)
+low-bytes (pos n) h =
+    let high : n / 256 % 256 ≡ n / 256 = omega (arith, h .sfits) in
+    ap (λ b. (n % 256) ∷ b ∷ []) high
+low-bytes (negsuc n) h =
+    let m = 65535 - n in
+    let e : 4294967295 - n ≡ 256 * 16776960 + m = omega (arith, h .sfits) in
+    let low : (256 * 16776960 + m) % 256 ≡ m % 256 = omega arith in
+    let next : (256 * 16776960 + m) / 256 ≡ 256 * 65535 + m / 256 = omega arith in
+    let high : (256 * 65535 + m / 256) % 256 ≡ m / 256 = omega arith in
+    rw (e, next) (ap₂ (λ a b. a ∷ b ∷ []) low high)

@@ -47,12 +47,19 @@ unsigned64 f i =
 abbrev pub signed16 : ℕ → ℤ
 signed16 x = cond (ltb x 32768) (pos x) (negsuc (65535 - x))
 
--- the unsigned number of 32 bits that a signed one is in two's complement
+-- the unsigned number of 16 bits that a signed one is in two's complement, and that of 32 bits
+abbrev pub bits16 : ℤ → ℕ
+bits16 (pos n) = n
+bits16 (negsuc n) = 65535 - n
+
 abbrev pub bits32 : ℤ → ℕ
 bits32 (pos n) = n
 bits32 (negsuc n) = 4294967295 - n
 
--- the four bytes of a number of 32 bits, and the eight of one of 64
+-- the two bytes of a number of 16 bits, the four of one of 32, and the eight of one of 64
+abbrev pub bytes16 : ℕ → List ℕ
+bytes16 x = (x % 256) ∷ (x / 256) ∷ []
+
 abbrev pub bytes32 : ℕ → List ℕ
 bytes32 x = (x % 256) ∷ (x / 256 % 256) ∷ (x / 65536 % 256) ∷ (x / 16777216) ∷ []
 
@@ -60,3 +67,8 @@ abbrev pub bytes64 : ℕ → List ℕ
 bytes64 x =
     (x % 256) ∷ (x / 256 % 256) ∷ (x / 65536 % 256) ∷ (x / 16777216 % 256) ∷ (x / 4294967296 % 256)
     ∷ (x / 1099511627776 % 256) ∷ (x / 281474976710656 % 256) ∷ (x / 72057594037927936) ∷ []
+
+-- what a frame is made of: numbers below 256
+unfoldable pub isBytes : List ℕ → Bool
+unfolding all
+isBytes = all (λ b. ltb b 256)

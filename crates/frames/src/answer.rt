@@ -3,7 +3,7 @@ ghost use mathlib.Core.List.{_++_, [], _∷_};
 ghost use mathlib.Core.Path.{_≡_};
 ghost use lib.ListN.{take, drop, replicate};
 ghost use Rattle.frames.specs.Fields.{bytes32, bytes64};
-ghost use Rattle.frames.specs.Answer.{wka1, answerBytes, replyNumber};
+ghost use Rattle.frames.specs.Answer.{headerFor, answerBytes, replyNumber};
 ghost use Rattle.refusals.specs.Numbers.{causeNumber};
 use crate::field;
 use refusals::Cause;
@@ -14,13 +14,14 @@ pub enum Reply {
     Refused(Cause),
 }
 
-// An answer with WKA1 in its first four bytes.
-fn with_header(answer: [u8; 40]) -> [u8; 40]
-    ensures { λ r. ⌜ r ≡ wka1 ++ drop 4 answer ⌝ }
+// An answer with its first four bytes: WKA2 to a frame of the second version, WKA1 to any other.
+fn with_header(answer: [u8; 40], second: bool) -> [u8; 40]
+    ensures { λ r. ⌜ r ≡ headerFor second ++ drop 4 answer ⌝ }
 {
-    let mut a = answer;
-    bytes::copy(b"WKA1", &mut a);
-    a
+    if second {
+        return field::with_header(answer, b"WKA2");
+    }
+    field::with_header(answer, b"WKA1")
 }
 
 // An answer with the steps done in bytes 8 to 15.
@@ -33,22 +34,14 @@ fn with_done(answer: [u8; 40], done: u64) -> [u8; 40]
     a
 }
 
-// An answer with the window in its last sixteen bytes.
-fn with_window(answer: [u8; 40], w: [u8; 16]) -> [u8; 40]
-    ensures { λ r. ⌜ r ≡ take 24 answer ++ w ⌝ }
-{
-    let mut a = answer;
-    bytes::copy(&w, &mut a[24..]);
-    a
-}
-
-// The symbol, the number of different symbols, and the level in two's complement; the other bytes zero.
-fn with_level(symbol: u8, different: u8, bits: u32) -> [u8; 40]
-    ensures { λ r. ⌜ r ≡ replicate 5 0 ++ (symbol ∷ different ∷ []) ++ replicate 9 0 ++ bytes32 bits ++ replicate 20 0 ⌝ }
+// The symbol, the number of different symbols, the round number, and the level in two's complement; the other bytes zero.
+fn with_level(symbol: u8, different: u8, round: u8, bits: u32) -> [u8; 40]
+    ensures { λ r. ⌜ r ≡ replicate 5 0 ++ (symbol ∷ different ∷ round ∷ []) ++ replicate 8 0 ++ bytes32 bits ++ replicate 20 0 ⌝ }
 {
     let mut a = [0u8; 40];
     a[5] = symbol;
     a[6] = different;
+    a[7] = round;
     a[16] = (bits % 256) as u8;
     a[17] = (bits / 256 % 256) as u8;
     a[18] = (bits / 65536 % 256) as u8;
@@ -56,25 +49,32 @@ fn with_level(symbol: u8, different: u8, bits: u32) -> [u8; 40]
     a
 }
 
-// WKA1, the number, 35 zeros.
-fn refusal_bytes(cause: Cause) -> [u8; 40]
-    ensures { λ r. ⌜ r ≡ wka1 ++ (causeNumber cause ∷ []) ++ replicate 35 0 ⌝ }
+// The header, the number, 35 zeros.
+fn refusal_bytes(second: bool, cause: Cause) -> [u8; 40]
+    ensures { λ r. ⌜ r ≡ headerFor second ++ (causeNumber cause ∷ replicate 35 0) ⌝ }
 {
     let mut a = [0u8; 40];
     a[4] = refusals::number(cause);
-    with_header(a)
+    with_header(a, second)
 }
 
 // The one encoder of answers.
-pub fn answer_bytes(reply: Reply, different: u8, done: u64, window: [u8; 16]) -> [u8; 40]
-    ensures { λ r. ⌜ r ≡ answerBytes reply different done window ⌝ }
+pub fn answer_bytes(
+    second: bool,
+    round: u8,
+    reply: Reply,
+    different: u8,
+    done: u64,
+    window: [u8; 16],
+) -> [u8; 40]
+    ensures { λ r. ⌜ r ≡ answerBytes second round reply different done window ⌝ }
 {
     match reply {
         Reply::Accepted { symbol, level } => {
-            let answer = with_level(symbol, different, field::bits_of(level));
-            with_header(with_window(with_done(answer, done), window))
+            let answer = with_level(symbol, different, round, field::bits_of(level));
+            with_header(field::with_window(with_done(answer, done), window), second)
         }
-        Reply::Refused(cause) => refusal_bytes(cause),
+        Reply::Refused(cause) => refusal_bytes(second, cause),
     }
 }
 

@@ -1,5 +1,7 @@
-// Numbers as bytes, little-endian, and two's complement.
+// Numbers as bytes, little-endian, and two's complement; and what questions and answers have at the same place.
+ghost use mathlib.Core.List.{_++_};
 ghost use mathlib.Core.Path.{_≡_};
+ghost use lib.ListN.{length, take, drop};
 ghost use Rattle.frames.specs.Fields.{zeros, signed16, bits32, bytes64};
 
 // The signed number that an unsigned one is in two's complement.
@@ -50,4 +52,23 @@ pub fn all_zero(s: &[u8]) -> bool
         i += 1;
     }
     true
+}
+
+// A frame with the four letters of a header in its first bytes.
+pub(crate) fn with_header(frame: [u8; 40], header: &[u8]) -> [u8; 40]
+    requires { ⌜ length (now header) ≡ 4 ⌝ }
+    ensures { λ r. ⌜ r ≡ now (header .entry) ++ drop 4 frame ⌝ }
+{
+    let mut f = frame;
+    bytes::copy(header, &mut f);
+    f
+}
+
+// A frame with the window in its last sixteen bytes.
+pub(crate) fn with_window(frame: [u8; 40], w: [u8; 16]) -> [u8; 40]
+    ensures { λ r. ⌜ r ≡ take 24 frame ++ w ⌝ }
+{
+    let mut f = frame;
+    bytes::copy(&w, &mut f[24..]);
+    f
 }

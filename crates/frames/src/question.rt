@@ -1,16 +1,37 @@
-// The fields of a question, in its forty bytes.
+// The fields of a question, in its forty bytes, and the bytes of a begin frame.
+ghost use mathlib.Core.List.{_++_, [], _∷_};
 ghost use mathlib.Core.Path.{_≡_};
 ghost use Prim.Native.Nat.{_+_, _≤_, _<_};
-ghost use Rattle.frames.specs.Fields.{part, zeros, unsigned16, unsigned64};
-ghost use Rattle.frames.specs.Question.{isQuestion, numberIn, settingIn, takesTable, windowIn, reservedB, reservedS, reservedQ};
+ghost use lib.ListN.{length, take, replicate};
+ghost use Rattle.frames.specs.Fields.{part, zeros, sameBytes, unsigned16, unsigned64, bytes16, bytes32};
+ghost use Rattle.frames.specs.Question.{isQuestion, isSecond, letterB, numberIn, settingIn, takesTable, windowIn};
+ghost use Rattle.frames.specs.Question.{roundNumberOk, reservedB, reservedS, reservedQ, beginBytes};
 use crate::field;
 use levels::Setting;
 
-// Bytes 0–3 are WKO1.
+// Bytes 0–3 are these.
+fn starts(frame: &[u8], header: &[u8]) -> bool
+    requires { ⌜ 4 ≤ length (now frame) ⌝ }
+    ensures { λ r. ⌜ r ≡ sameBytes (part (now (frame .entry)) 0 4) (now (header .entry)) ⌝ }
+{
+    check::same(&frame[..4], header)
+}
+
+// Bytes 0–3 are WKO1 or WKO2.
 pub fn is_question(f: [u8; 40]) -> bool
     ensures { λ r. ⌜ r ≡ isQuestion f ⌝ }
 {
-    check::same(&f[..4], b"WKO1")
+    starts(&f, b"WKO1") | starts(&f, b"WKO2")
+}
+
+// A frame of the second version.
+pub fn is_second(frame: &[u8]) -> bool
+    ensures { λ r. ⌜ r ≡ isSecond (now (frame .entry)) ⌝ }
+{
+    if frame.len() != 40 {
+        return false;
+    }
+    starts(frame, b"WKO2")
 }
 
 // The `count` bytes from `from` on are zero.
@@ -22,17 +43,28 @@ fn zeros_in(f: [u8; 40], from: usize, count: usize) -> bool
     field::all_zero(&f[from..end])
 }
 
+// Byte 7 of a begin or step frame: a round number in the second version, zero in the first.
+fn round_number_ok(f: [u8; 40]) -> bool
+    ensures { λ r. ⌜ r ≡ roundNumberOk f ⌝ }
+{
+    let round = f[7];
+    if is_second(&f) {
+        return round != 0;
+    }
+    round == 0
+}
+
 // Test 5 for a begin, a step and a query frame.
 pub fn reserved_begin(f: [u8; 40]) -> bool
     ensures { λ r. ⌜ r ≡ reservedB f ⌝ }
 {
-    zeros_in(f, 7, 9) & zeros_in(f, 20, 4)
+    round_number_ok(f) & (zeros_in(f, 8, 8) & zeros_in(f, 20, 4))
 }
 
 pub fn reserved_step(f: [u8; 40]) -> bool
     ensures { λ r. ⌜ r ≡ reservedS f ⌝ }
 {
-    zeros_in(f, 5, 3) & zeros_in(f, 16, 24)
+    round_number_ok(f) & (zeros_in(f, 5, 2) & zeros_in(f, 16, 24))
 }
 
 pub fn reserved_query(f: [u8; 40]) -> bool
@@ -104,4 +136,39 @@ pub fn window_in(f: [u8; 40]) -> [u8; 16]
     let mut w = [0u8; 16];
     bytes::copy(&f[24..40], &mut w);
     w
+}
+
+// The fields of a begin frame before its window; the other bytes zero.
+fn with_setting(n: u8, rule: u8, round: u8, top: u32, spacing: u16) -> [u8; 40]
+    ensures { λ r. ⌜ r ≡ replicate 4 0 ++ (letterB ∷ n ∷ rule ∷ round ∷ []) ++ replicate 8 0 ++ take 2 (bytes32 top) ++ bytes16 spacing ++ replicate 20 0 ⌝ }
+{
+    let mut f = [0u8; 40];
+    f[4] = b'B';
+    f[5] = n;
+    f[6] = rule;
+    f[7] = round;
+    f[16] = (top % 256) as u8;
+    f[17] = (top / 256 % 256) as u8;
+    f[18] = (spacing % 256) as u8;
+    f[19] = (spacing / 256) as u8;
+    f
+}
+
+// The one encoder of begin frames.
+pub fn begin_bytes(
+    second: bool,
+    n: u8,
+    rule: u8,
+    round: u8,
+    setting: Setting,
+    window: [u8; 16],
+) -> [u8; 40]
+    ensures { λ r. ⌜ r ≡ beginBytes second n rule round setting window ⌝ }
+{
+    let top = field::bits_of(setting.top as i32);
+    let f = field::with_window(with_setting(n, rule, round, top, setting.spacing), window);
+    if second {
+        return field::with_header(f, b"WKO2");
+    }
+    field::with_header(f, b"WKO1")
 }

@@ -4,6 +4,7 @@ use Rattle.refusals.specs.declared.Cause.{Cause}
 use Rattle.refusals.specs.declared.Cause.the-variants.{ShortBuffer, FrameLength, FrameHeader, FrameKind, ReservedByte}
 use Rattle.refusals.specs.declared.Cause.the-variants.{WindowLength, RuleNumber, NotWeakOrder, LevelSetting, NotBegun}
 use Rattle.refusals.specs.declared.Cause.the-variants.{StepNumber, RoundFinished, NoSuchPlace, SheetMalformed, NoFilling, LevelFile}
+use Rattle.refusals.specs.declared.Cause.the-variants.{OtherVersion, OtherRound, RoundInForce}
 use Rattle.refusals.specs.declared.Verdict.{Verdict}
 use Rattle.refusals.specs.declared.Verdict.the-variants.{Accepted, Refused}
 
@@ -26,6 +27,10 @@ causeNumber SheetMalformed = 14
 causeNumber NoFilling = 15
 -- Paper 4
 causeNumber LevelFile = 16
+-- Paper 6
+causeNumber OtherVersion = 17
+causeNumber OtherRound = 18
+causeNumber RoundInForce = 19
 
 -- "256 + number means refused"
 abbrev pub refusal : Cause → ℕ

@@ -21,6 +21,9 @@ pub enum Cause {
     SheetMalformed,
     NoFilling,
     LevelFile,
+    OtherVersion,
+    OtherRound,
+    RoundInForce,
 }
 
 // Whether a call or a sheet is accepted. A window that goes with it stands beside it, since an enum cannot hold an array.
@@ -50,5 +53,8 @@ pub fn number(cause: Cause) -> u8
         Cause::SheetMalformed => 14,
         Cause::NoFilling => 15,
         Cause::LevelFile => 16,
+        Cause::OtherVersion => 17,
+        Cause::OtherRound => 18,
+        Cause::RoundInForce => 19,
     }
 }

@@ -1,14 +1,13 @@
--- What a session that counts as begun is known by, and that an accepted frame leaves such a session. Assumes nothing.
-use mathlib.Core.Bool.{Bool, true, false, cond, not, _&&_, _||_, false≢true}
+-- What a session that counts as begun is known by, and that a step keeps it so. Assumes nothing.
+use mathlib.Core.Bool.{Bool, true, false, cond, not, _&&_}
 use mathlib.Core.List.{List}
-use mathlib.Core.Path.{_≡_, refl, sym, subst, _∙_}
-use Prim.Native.Nat.{ℕ, _+_, _≤_, _<_}
+use mathlib.Core.Path.{_≡_, refl, sym, subst}
+use Prim.Native.Nat.{ℕ, _≤_, _<_}
 use native.Mathlib.Omega.{arith}
 use lib.Dec.{leb, eqb}
 use lib.IntN.{ℤ}
 use lib.ListN.{length, take, drop}
 use lib.Seq.{length-take-le}
-use borrow.Author.Tests.{eqb-false, not-false}
 use Rattle.weak_orders.proofs.FormTests.{says-length}
 use Rattle.weak_orders.specs.Says.{Says}
 use Rattle.weak_orders.specs.Window.{isLength}
@@ -17,20 +16,19 @@ use Rattle.weak_orders.proofs.Tests.{by-test, says-and, says-as, says-eq, says-
 use Rattle.ranking.specs.Counts.{a}
 use Rattle.successors.specs.Rules.{ruleOf, inForm, isRule, step}
 use Rattle.successors.proofs.StepForm.{step-in-form}
-use Rattle.refusals.specs.declared.Cause.{Cause}
-use Rattle.refusals.specs.declared.Cause.the-variants.{FrameLength, FrameHeader, FrameKind, ReservedByte, WindowLength, RuleNumber}
-use Rattle.refusals.specs.declared.Cause.the-variants.{NotWeakOrder, LevelSetting, NotBegun, StepNumber, RoundFinished}
+use Rattle.refusals.specs.declared.Cause.the-variants.{WindowLength, RuleNumber}
+use Rattle.refusals.specs.declared.Cause.the-variants.{NotWeakOrder, LevelSetting}
 use Rattle.frames.specs.declared.answer.Reply.the-variants.{Refused}
 use Rattle.levels.specs.declared.Setting.{Setting}
-use Rattle.frames.specs.Fields.{zeros}
+use Rattle.frames.specs.Fields.{part, zeros}
 use Rattle.levels.specs.Level.{settingOk}
-use Rattle.frames.specs.Question.{isQuestion, kindIn, letterB, letterS, letterQ, numberIn, reservedB, reservedS, reservedQ}
+use Rattle.frames.specs.Question.{reservedB}
+use Rattle.frames.specs.Question.{isSecond, roundNumberOk}
 use Rattle.frames.specs.Answer.{accepted, stateReply}
 use Rattle.frames.proofs.Padding.{unused-padded}
-use Rattle.stepper.specs.declared.session.Exchanged.{Exchanged}
 use Rattle.stepper.specs.declared.session.Session.{Session}
-use Rattle.stepper.specs.Exchange.{windowOk, replyIf, beginReply, begunIf, hasBegun, refuse, roundIn, beginFrame}
-use Rattle.stepper.specs.Exchange.{onward, stepped, stepOf, stepFrame, queryOf, queryFrame, handle}
+use Rattle.stepper.specs.Exchange.{windowOk, replyIf, beginReply, inSecond, isNumbered, begunIf, hasBegun, roundIn}
+use Rattle.stepper.specs.Exchange.{onward}
 
 -- What tests 6 to 9 say of a round.
 pub record RoundOk (n rule : ℕ) (window : List ℕ) (setting : Setting) : Type 0 where
@@ -77,13 +75,16 @@ pub record Begun (s : Session) : Type 0 where
   pub flag : s .begun ≡ 1
   pub round : RoundOk (s .n) (s .rule) (s .window) (s .setting)
   pub within : s .done ≤ a (s .n)
+  -- a WKO2 round is not numbered 0
+  pub number : isNumbered s ≡ true
 
 pub says-begun : (s : Session) → Says (hasBegun s) (Begun s)
 unfolding hasBegun begunIf beginReply
-says-begun s = subst (λ b. Says (eqb (s .begun) 1 && (b && leb (s .done) (a (s .n)))) (Begun s)) (sym (begin-judged s)) (says-as
-    (says-and (says-eq (s .begun) 1) (says-and (says-round (s .n) (s .rule) (s .window) (s .setting)) (says-le (s .done) (a (s .n)))))
-    (λ (flag, (round, within)). record { flag = flag; round = round; within = within })
-    (λ b. (b .flag, (b .round, b .within))))
+says-begun s = subst (λ b. Says (eqb (s .begun) 1 && (b && (leb (s .done) (a (s .n)) && isNumbered s))) (Begun s)) (sym (begin-judged s)) (says-as
+    (says-and (says-eq (s .begun) 1) (says-and (says-round (s .n) (s .rule) (s .window) (s .setting))
+    (says-and (says-le (s .done) (a (s .n))) (says-itself (isNumbered s)))))
+    (λ (flag, (round, (within, number))). record { flag = flag; round = round; within = within; number = number })
+    (λ b. (b .flag, (b .round, (b .within, b .number)))))
 
 -- A step keeps a session begun.
 module _ (s : Session) (l : length (s .window) ≡ 16) (b : Begun s) (lt : s .done < a (s .n)) where
@@ -92,7 +93,7 @@ module _ (s : Session) (l : length (s .window) ≡ 16) (b : Begun s) (lt : s .do
   stepped-long = shifted-length (s .window) (s .n) (ruleOf (s .rule) (take (s .n) (s .window))) l (b .round .low) (b .round .high)
 
   pub onward-begun : Begun (onward s)
-  unfolding onward
+  unfolding onward isNumbered inSecond
   onward-begun =
       let w = take (s .n) (s .window) in
       let w′ = step (ruleOf (s .rule)) w in
@@ -109,55 +110,16 @@ module _ (s : Session) (l : length (s .window) ≡ 16) (b : Begun s) (lt : s .do
           levels = b .round .levels;
         };
         within = omega arith;
+        number = b .number;
       }
 
--- An accepted frame leaves a session that has begun.
-record Leaves (x : Exchanged) : Type 0 where
-  begun : accepted (x .reply) ≡ true → Begun (x .session)
+-- a frame whose byte 7 passes test 5 begins no WKO2 round numbered 0
+pub numbered : (f : List ℕ) (h : List ℤ) → roundNumberOk f ≡ true → isNumbered (roundIn f h) ≡ true
+unfolding roundNumberOk roundIn isNumbered inSecond
+numbered f h t = by-test (isSecond f) (λ e. rw e (rw e at t)) (λ e. rw e)
 
-leaves-refused : (s : Session) (cause : Cause) → Leaves (refuse s cause)
-unfolding accepted
-leaves-refused s cause = record { begun = λ t. absurd (false≢true t) }
-
-leaves-cond : (b : Bool) {x y : Exchanged} → (b ≡ true → Leaves x) → (b ≡ false → Leaves y) → Leaves (cond b x y)
-leaves-cond true f g = f refl
-leaves-cond false f g = g refl
-
-round-begun : (f : List ℕ) (h : List ℤ) → accepted (beginReply (roundIn f h)) ≡ true → Begun (roundIn f h)
-unfolding roundIn
-round-begun f h t = record { flag = refl; round = says-round _ _ _ _ .to (sym (begin-judged (roundIn f h)) ∙ t); within = omega arith }
-
-begin-leaves : (s : Session) (f : List ℕ) → Leaves (beginFrame s f)
-unfolding beginFrame
-begin-leaves s f = leaves-cond (not (reservedB f))
-    (λ e. leaves-refused s ReservedByte)
-    (λ e. record { begun = λ t. rw t (round-begun f (s .held) t) })
-
-module _ (s : Session) (l : length (s .window) ≡ 16) where
-  step-leaves : (k : ℕ) → Leaves (stepOf s k)
-  unfolding stepOf stepped
-  step-leaves k = leaves-cond (not (hasBegun s)) (λ e. leaves-refused s NotBegun) (λ begun.
-      leaves-cond (eqb k 0 || not (eqb k (s .done) || eqb k (s .done + 1))) (λ e. leaves-refused s StepNumber) (λ e.
-      leaves-cond (eqb k (s .done + 1) && eqb (s .done) (a (s .n))) (λ e. leaves-refused s RoundFinished) (λ unfinished.
-      record { begun = λ t. left (says-begun s .to (not-false (hasBegun s) begun)) unfinished })))
-    where
-      left : Begun s → (eqb k (s .done + 1) && eqb (s .done) (a (s .n))) ≡ false → Begun (cond (eqb k (s .done + 1)) (onward s) s)
-      left b unfinished = by-test (eqb k (s .done + 1))
-          (λ next.
-          let more = eqb-false (s .done) (a (s .n)) (rw next at unfinished) in
-          rw next (onward-begun s l b (omega (arith, b .within))))
-          (λ next. rw next b)
-
-  pub handle-leaves : (f : List ℕ) → accepted (handle s f .reply) ≡ true → Begun (handle s f .session)
-  unfolding handle stepFrame queryFrame queryOf
-  handle-leaves f = (
-      leaves-cond (not (eqb (length f) 40)) (λ e. leaves-refused s FrameLength) (λ e.
-      leaves-cond (not (isQuestion f)) (λ e. leaves-refused s FrameHeader) (λ e.
-      leaves-cond (eqb (kindIn f) letterB) (λ e. begin-leaves s f) (λ e.
-      leaves-cond (eqb (kindIn f) letterS)
-      (λ e. leaves-cond (not (reservedS f)) (λ e. leaves-refused s ReservedByte) (λ e. step-leaves (numberIn f))) (λ e.
-      leaves-cond (eqb (kindIn f) letterQ)
-      (λ e. leaves-cond (not (reservedQ f)) (λ e. leaves-refused s ReservedByte) (λ e.
-      leaves-cond (not (hasBegun s)) (λ e. leaves-refused s NotBegun) (λ e.
-      record { begun = λ t. says-begun s .to (not-false (hasBegun s) e) })))
-      (λ e. leaves-refused s FrameKind)))))) .begun
+pub reserved-parts : (f : List ℕ) → reservedB f ≡ true →
+    (roundNumberOk f ≡ true) × ((zeros (part f 8 8) ≡ true) × (zeros (part f 20 4) ≡ true))
+unfolding reservedB
+reserved-parts f t =
+    says-and (says-itself (roundNumberOk f)) (says-and (says-itself (zeros (part f 8 8))) (says-itself (zeros (part f 20 4)))) .to t

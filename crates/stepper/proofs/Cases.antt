@@ -5,7 +5,7 @@ use mathlib.Core.Option.{Option, none, some}
 use mathlib.Core.Path.{_≡_, refl, sym, ap, _∙_}
 use Prim.Native.Nat.{ℕ, _+_, _-_, _≤_, _<_}
 use native.Mathlib.Omega.{arith}
-use lib.Dec.{leb}
+use lib.Dec.{leb, eqb}
 use lib.IntN.{ℤ}
 use lib.ListN.{length, take, drop}
 use lib.Seq.{length-take-le, getD-take, take-length}
@@ -22,20 +22,20 @@ use Rattle.successors.specs.declared.Next.the-variants.{Symbol, Refused as NoSy
 use Rattle.successors.proofs.RuleNumbers.{form-bound}
 use Rattle.successors.proofs.Steppable.{Steppable, accepted as yes-judged, steppable-of, symbol-judged, no-symbol}
 use Rattle.refusals.specs.declared.Cause.{Cause}
-use Rattle.refusals.specs.declared.Cause.the-variants.{NotBegun, StepNumber, RoundFinished, LevelFile}
+use Rattle.refusals.specs.declared.Cause.the-variants.{FrameKind, NotBegun, StepNumber, RoundFinished, LevelFile, RoundInForce}
 use Rattle.frames.specs.declared.answer.Reply.{Reply}
 use Rattle.frames.specs.declared.answer.Reply.the-variants.{Accepted, Refused}
 use Rattle.frames.specs.Fields.{byte}
-use Rattle.frames.specs.Question.{reservedB}
-use Rattle.frames.specs.Answer.{accepted, answerBytes, newest, stateReply}
+use Rattle.frames.specs.Question.{isQuestion, isSecond, kindIn, letterB, letterS, letterQ}
+use Rattle.frames.specs.Answer.{accepted, answerBytes, newest}
 use Rattle.frames.proofs.Padding.{padded-take}
 use Rattle.level_files.specs.declared.TableRead.{TableRead}
 use Rattle.level_files.specs.Held.{tableRead}
 use Rattle.level_files.specs.LevelFile.{readTable}
 use Rattle.stepper.specs.declared.session.Exchanged.{Exchanged}
 use Rattle.stepper.specs.declared.session.Session.{Session}
-use Rattle.stepper.specs.Exchange.{replyIf, beginReply, begunIf, hasBegun, refuse, roundIn, beginFrame, onward, stepped, stepOf}
-use Rattle.stepper.specs.Exchange.{handle, answerTo, exchange, withTable, loaded, loadLevels}
+use Rattle.stepper.specs.Exchange.{replyIf, beginReply, isNumbered, begunIf, hasBegun, refuse, accept, roundIn, takesNumber, beginAnew}
+use Rattle.stepper.specs.Exchange.{beginFrame, onward, stepped, ifBegun, stepNumbered, stepFrame, queryFrame, handle, answerTo, exchange, withTable, loaded, loadLevels}
 use Rattle.stepper.proofs.Begun.{says-begun}
 
 -- a(n), as it is looked up, where n is a window's length
@@ -51,7 +51,8 @@ module _ (s : Session) (formed : Bool) (reply : Reply) (flag : s .begun ≡ 1) (
     | no l ↦ absurd (false≢true (rw (says-no (says-length (s .n)) l) at t))
   ]
 
-  pub begun-accepted : (m : ℕ) → m ≡ cond (leb (s .n) 16) (a (s .n)) 0 → accepted reply ≡ true → leb (s .done) m ≡ begunIf s formed
+  pub begun-accepted : (m : ℕ) → m ≡ cond (leb (s .n) 16) (a (s .n)) 0 → accepted reply ≡ true →
+      (leb (s .done) m && isNumbered s) ≡ begunIf s formed
   unfolding begunIf
   begun-accepted m e t =
       let t′ : accepted (replyIf s formed) ≡ true = ap accepted (sym judged) ∙ t in
@@ -96,60 +97,87 @@ module _ (s : Session) where
         let passed : Steppable (s .rule) (s .n) (s .window) = (round .known, (says-length (s .n) .of (round .low, round .high), round .form)) in
         no-symbol (s .rule) (s .n) (take (s .n) (s .window)) e (yes-judged (s .rule) (s .n) (s .window) l passed))
 
--- A begin frame, accepted or refused.
-module _ (s : Session) (f : List ℕ) (reply : Reply) (reserved : reservedB f ≡ true) (judged : reply ≡ beginReply (roundIn f (s .held))) where
-  pub begin-yes : accepted reply ≡ true → record { session = roundIn f (s .held); reply = reply } ≡ beginFrame s f
-  unfolding beginFrame
-  begin-yes t =
-      let t′ : accepted (beginReply (roundIn f (s .held))) ≡ true = ap accepted (sym judged) ∙ t in
-      rw (reserved, t′, judged)
-
-  pub begin-no : accepted reply ≡ false → record { session = s; reply = reply } ≡ beginFrame s f
-  unfolding beginFrame
+-- A begin frame for a new round, accepted or refused.
+module _ (s : Session) (f : List ℕ) (reply : Reply) (judged : reply ≡ beginReply (roundIn f (s .held))) where
+  pub begin-no : accepted reply ≡ false → record { session = s; reply = reply } ≡ beginAnew s f
+  unfolding beginAnew
   begin-no t =
       let t′ : accepted (beginReply (roundIn f (s .held))) ≡ false = ap accepted (sym judged) ∙ t in
-      rw (reserved, t′, judged)
+      rw (t′, judged)
 
--- Step frames.
+  module _ (t : accepted reply ≡ true) where
+    passed : accepted (beginReply (roundIn f (s .held))) ≡ true
+    passed = ap accepted (sym judged) ∙ t
+
+    pub begin-taken-number : takesNumber s f ≡ true → refuse s RoundInForce ≡ beginAnew s f
+    unfolding beginAnew
+    begin-taken-number e = rw (passed, e)
+
+    pub begin-yes : takesNumber s f ≡ false → record { session = roundIn f (s .held); reply = reply } ≡ beginAnew s f
+    unfolding beginAnew
+    begin-yes e = rw (passed, e, judged)
+
+-- Test 10, passed or not.
+module _ (s : Session) where
+  pub not-begun : (x : Exchanged) → hasBegun s ≡ false → refuse s NotBegun ≡ ifBegun s x
+  unfolding ifBegun
+  not-begun x e = rw e
+
+  pub if-begun : {x : Exchanged} (y : Exchanged) → hasBegun s ≡ true → x ≡ y → x ≡ ifBegun s y
+  unfolding ifBegun
+  if-begun y b e = rw b e
+
+-- Step frames of the round, by their number.
 module _ (s : Session) (k : ℕ) where
-  pub not-begun : hasBegun s ≡ false → refuse s NotBegun ≡ stepOf s k
-  unfolding stepOf
-  not-begun e = rw e
+  pub zero-number : k ≡ 0 → refuse s StepNumber ≡ stepNumbered s k
+  unfolding stepNumbered
+  zero-number z = rw (eq-eqb k 0 z)
 
-  module _ (begun : hasBegun s ≡ true) where
-    pub zero-number : k ≡ 0 → refuse s StepNumber ≡ stepOf s k
-    unfolding stepOf
-    zero-number z = rw (begun, eq-eqb k 0 z)
+  module _ (positive : k ≡ 0 → ⊥) where
+    pub resent : k ≡ s .done → stepped s ≡ stepNumbered s k
+    unfolding stepNumbered
+    resent e = rw (ne-eqb k 0 positive, eq-eqb k (s .done) e, ne-eqb k (s .done + 1) (λ e′. omega arith))
 
-    module _ (positive : k ≡ 0 → ⊥) where
-      pub resent : k ≡ s .done → stepped s ≡ stepOf s k
-      unfolding stepOf
-      resent e = rw (begun, ne-eqb k 0 positive, eq-eqb k (s .done) e, ne-eqb k (s .done + 1) (λ e′. omega arith))
+    pub misnumbered : (k ≡ s .done → ⊥) → (k - 1 ≡ s .done → ⊥) → refuse s StepNumber ≡ stepNumbered s k
+    unfolding stepNumbered
+    misnumbered x y = rw (ne-eqb k 0 positive, ne-eqb k (s .done) x, ne-eqb k (s .done + 1) (λ e. y (omega arith)))
 
-      pub misnumbered : (k ≡ s .done → ⊥) → (k - 1 ≡ s .done → ⊥) → refuse s StepNumber ≡ stepOf s k
-      unfolding stepOf
-      misnumbered x y = rw (begun, ne-eqb k 0 positive, ne-eqb k (s .done) x, ne-eqb k (s .done + 1) (λ e. y (omega arith)))
+    module _ (next : k - 1 ≡ s .done) where
+      pub finished : s .done ≡ a (s .n) → refuse s RoundFinished ≡ stepNumbered s k
+      unfolding stepNumbered
+      finished e = rw (
+        ne-eqb k 0 positive,
+        ne-eqb k (s .done) (λ e. omega arith),
+        eq-eqb k (s .done + 1) (omega arith),
+        eq-eqb (s .done) (a (s .n)) e,
+      )
 
-      module _ (next : k - 1 ≡ s .done) where
-        pub finished : s .done ≡ a (s .n) → refuse s RoundFinished ≡ stepOf s k
-        unfolding stepOf
-        finished e = rw (
-          begun,
-          ne-eqb k 0 positive,
-          ne-eqb k (s .done) (λ e. omega arith),
-          eq-eqb k (s .done + 1) (omega arith),
-          eq-eqb (s .done) (a (s .n)) e,
-        )
+      pub steps : (s .done ≡ a (s .n) → ⊥) → stepped (onward s) ≡ stepNumbered s k
+      unfolding stepNumbered
+      steps x = rw (
+        ne-eqb k 0 positive,
+        ne-eqb k (s .done) (λ e. omega arith),
+        eq-eqb k (s .done + 1) (omega arith),
+        ne-eqb (s .done) (a (s .n)) x,
+      )
 
-        pub steps : (s .done ≡ a (s .n) → ⊥) → stepped (onward s) ≡ stepOf s k
-        unfolding stepOf
-        steps x = rw (
-          begun,
-          ne-eqb k 0 positive,
-          ne-eqb k (s .done) (λ e. omega arith),
-          eq-eqb k (s .done + 1) (omega arith),
-          ne-eqb (s .done) (a (s .n)) x,
-        )
+-- A frame of forty bytes with a header, by its kind.
+module _ (s : Session) (f : List ℕ) (long : length f ≡ 40) (header : isQuestion f ≡ true) where
+  by-kind : handle s f
+      ≡ cond (eqb (kindIn f) letterB) (beginFrame s f) (
+      cond (eqb (kindIn f) letterS) (stepFrame s f) (
+      cond (eqb (kindIn f) letterQ) (queryFrame s f) (refuse s FrameKind)))
+  unfolding handle
+  by-kind = rw (eq-eqb (length f) 40 long, header)
+
+  pub handled-begin : kindIn f ≡ letterB → beginFrame s f ≡ handle s f
+  handled-begin k = sym (by-kind ∙ rw k)
+
+  pub handled-step : kindIn f ≡ letterS → stepFrame s f ≡ handle s f
+  handled-step k = sym (by-kind ∙ rw k)
+
+  pub handled-query : kindIn f ≡ letterQ → queryFrame s f ≡ handle s f
+  handled-query k = sym (by-kind ∙ rw k)
 
 -- The newest of the first n symbols.
 pub newest-at : (w : List ℕ) (n : ℕ) → 1 ≤ n → n ≤ length w → byte w (n - 1) ≡ newest (take n w)
@@ -157,11 +185,11 @@ unfolding newest
 newest-at w n low high = rw (length-take-le n w high) (sym (getD-take n w (n - 1) 0 (omega arith)))
 
 -- The answer: what stands in it of the window counts only where the frame was accepted, and then the session has begun.
-pub same-answer : (reply : Reply) (done d d′ : ℕ) (w w′ : List ℕ) → (accepted reply ≡ true → (d ≡ d′) × (w ≡ w′)) →
-    answerBytes reply d done w ≡ answerBytes reply d′ done w′
+pub same-answer : (second : Bool) (round : ℕ) (reply : Reply) (done d d′ : ℕ) (w w′ : List ℕ) → (accepted reply ≡ true → (d ≡ d′) × (w ≡ w′)) →
+    answerBytes second round reply d done w ≡ answerBytes second round reply d′ done w′
 unfolding answerBytes accepted
-same-answer (Accepted symbol level) done d d′ w w′ h = let (e, e′) = h refl in rw (e, e′)
-same-answer (Refused cause) done d d′ w w′ h = refl
+same-answer second round (Accepted symbol level) done d d′ w w′ h = let (e, e′) = h refl in rw (e, e′)
+same-answer second round (Refused cause) done d d′ w w′ h = refl
 
 -- the symbols of a window of at most 16 in either form are below 31
 low : (rule : ℕ) (w : List ℕ) → length w ≤ 16 → inForm rule w ≡ true → bound w ≤ 31
@@ -181,7 +209,7 @@ answer-parts s l t =
 
 -- An answer copied over a buffer that has room for it.
 pub written-over : (s : Session) (f buffer : List ℕ) (x : Exchanged) (bytes l : List ℕ) → 40 ≤ length buffer → x ≡ handle s f →
-    bytes ≡ answerTo x → length bytes ≡ 40 → l ≡ take (length bytes) bytes ++ drop (length bytes) buffer → (x, l) ≡ exchange s f buffer
+    bytes ≡ answerTo (isSecond f) x → length bytes ≡ 40 → l ≡ take (length bytes) bytes ++ drop (length bytes) buffer → (x, l) ≡ exchange s f buffer
 unfolding exchange
 written-over s f buffer x bytes l room h b long e =
     rw (le-ltb (length buffer) 40 room, ← h, e, take-length bytes, long, b)
@@ -200,9 +228,9 @@ module _ (s : Session) (f : List ℕ) where
       (readTable f)
 
   pub table-loaded : (r : TableRead) → r ≡ tableRead (readTable f) → r .found ≡ true →
-      record { session = withTable s (r .table); reply = stateReply } ≡ loadLevels s f
+      accept (withTable s (r .table)) ≡ loadLevels s f
   unfolding tableRead loaded loadLevels
-  table-loaded r = by-reading (λ o. r ≡ tableRead o → r .found ≡ true → record { session = withTable s (r .table); reply = stateReply } ≡ loaded s o)
+  table-loaded r = by-reading (λ o. r ≡ tableRead o → r .found ≡ true → accept (withTable s (r .table)) ≡ loaded s o)
       (λ e y. absurd (false≢true (sym (ap (λ x. x .found) e) ∙ y)))
       (λ t e y. rw e)
       (readTable f)

@@ -1,6 +1,7 @@
 -- Each step exactly once, whatever is sent again, lost or loaded: the proof of demand 3. Assumes nothing.
-use mathlib.Core.Bool.{true, false, false≢true}
+use mathlib.Core.Bool.{Bool, true, false, cond, false≢true}
 use mathlib.Core.List.{List, [], _∷_, _++_, map}
+use mathlib.Core.Logic.{_⊎_, inl, inr, ⊎-elim}
 use mathlib.Core.Option.{some}
 use mathlib.Core.Path.{_≡_, refl, sym, ap, ap₂, _∙_, subst}
 use Prim.Native.Nat.{ℕ, zero, suc, _+_, _-_, _≤_, _<_}
@@ -11,23 +12,30 @@ use lib.ListN.{length, take, drop, getElem?, take-append-drop}
 use lib.Seq.{take-at, drop-at, take-length}
 use Rattle.weak_orders.specs.Window.{padded}
 use Rattle.weak_orders.proofs.Padded.{length-padded}
-use Rattle.weak_orders.proofs.Tests.{by-test}
+use Rattle.weak_orders.proofs.Tests.{by-test, says-and, says-eq, says-itself}
 use Rattle.refusals.specs.declared.Cause.{Cause}
 use Rattle.refusals.specs.declared.Cause.the-variants.{ShortBuffer}
-use Rattle.frames.specs.Question.{kindIn, letterB, letterS, numberIn, takesTable}
-use Rattle.frames.specs.Answer.{accepted, answerBytes, stepReply}
+use Rattle.levels.specs.Level.{onTable, levelAt, levelOf}
+use Rattle.frames.specs.declared.answer.Reply.{Reply}
+use Rattle.frames.specs.declared.answer.Reply.the-variants.{Accepted, Refused}
+use Rattle.frames.specs.Fields.{isBytes}
+use Rattle.frames.specs.Question.{isSecond, kindIn, letterB, letterS, roundNumberIn, numberIn, settingIn, takesTable}
+use Rattle.frames.specs.Answer.{accepted, answerBytes, stepReply, stateReply}
 use Rattle.level_files.specs.LevelFile.{readTable}
 use Rattle.stepper.specs.declared.session.Exchanged.{Exchanged}
 use Rattle.stepper.specs.declared.session.Session.{Session}
-use Rattle.stepper.specs.Exchange.{refuse, tableFor, stepped, answerTo, Outcome, exchange}
-use Rattle.stepper.specs.ExactlyOnce.{isNext, accepts, counted, countFrom, roundOf, countOf, causeAt, windowAfter, sessionAt}
-use Rattle.stepper.specs.ExactlyOnce.{replyAt, answerAt, Request, arrival, Event, question, levelFile, questions, arrivals, next, after}
-use Rattle.stepper.specs.ExactlyOnce.{tableOr, heldAfter, answers, InOrder, StepFrames, Position, Answered, Rejected, SameAnswer}
-use Rattle.stepper.specs.ExactlyOnce.{numbersAfter, firsts, ExactlyOnce, StepsExactlyOnce}
-use Rattle.stepper.proofs.Handling.{written, room, no-room, begin-taken}
-use Rattle.stepper.proofs.Standing.{Good, good, standing, listing, windows, begin-at, begun-at, step-handled, load-at, short-refused}
+use Rattle.stepper.specs.Exchange.{refuse, accept, sameVersion, stepped, handle, answerTo, Outcome, exchange}
+use Rattle.stepper.specs.ExactlyOnce.{passes, ofRound, stepsIn, roundOf, isNext, accepts, counted, countFrom, countOf, causeAt, startOf}
+use Rattle.stepper.specs.ExactlyOnce.{windowAfter, sessionAt, replyAt, answerAt, beginAnswer, Request, arrival, Event, question, levelFile}
+use Rattle.stepper.specs.ExactlyOnce.{questions, arrivals, next, after, answers, tableOr, heldAfter, copyAfter, InOrder, FramesOf}
+use Rattle.stepper.specs.ExactlyOnce.{Position, Answered, Began, Rejected, SameAnswer, numbersAfter, firsts, ExactlyOnce, StepsExactlyOnce}
+use Rattle.stepper.proofs.Begun.{reserved-parts}
+use Rattle.stepper.proofs.Coding.{says-again}
+use Rattle.stepper.proofs.Handling.{written, room, no-room, Good, Begins, again, anew, begin-taken}
+use Rattle.stepper.proofs.Standing.{no-number, standing, listing, windows, begun-at, step-handled, load-at, again-handled, short-refused}
+use Rattle.stepper.proofs.Standing.{anew-at, again-good, again-from}
 use Rattle.stepper.proofs.Counting.{StepCase, next as next-step, retransmission, neither, step-case, says-next, number-between}
-use Rattle.stepper.proofs.Counting.{counted-next, counted-same, counted-le, count-le, count-ge, next-of, in-order}
+use Rattle.stepper.proofs.Counting.{accepts-steps, counted-next, counted-same, counted-le, count-le, count-ge, next-of, in-order}
 
 -- ---- lists
 
@@ -91,50 +99,96 @@ joined a b e e′ = sym (take-append-drop 40 a) ∙ ap₂ _++_ e e′ ∙ take-a
 -- ---- the bytes of an outcome
 
 -- an answer of forty bytes, written over a buffer
-module _ (x : Exchanged) (buffer : List ℕ) (l : length (answerTo x) ≡ 40) where
-  written-bytes : take 40 (written x buffer .1) ≡ answerTo x
+module _ (second : Bool) (x : Exchanged) (buffer : List ℕ) (l : length (answerTo second x) ≡ 40) where
+  written-bytes : take 40 (written second x buffer .1) ≡ answerTo second x
   unfolding written
-  written-bytes = take-at (answerTo x) (drop 40 buffer) 40 l
+  written-bytes = take-at (answerTo second x) (drop 40 buffer) 40 l
 
-  written-rest : drop 40 (written x buffer .1) ≡ drop 40 buffer
+  written-rest : drop 40 (written second x buffer .1) ≡ drop 40 buffer
   unfolding written
-  written-rest = drop-at (answerTo x) (drop 40 buffer) 40 l
+  written-rest = drop-at (answerTo second x) (drop 40 buffer) 40 l
+
+-- an answer has forty bytes, in either version
+bytes-long : (second : Bool) (round : ℕ) (reply : Reply) (different done : ℕ) (w : List ℕ) → length w ≡ 16 →
+    length (answerBytes second round reply different done w) ≡ 40
+unfolding answerBytes
+bytes-long true round (Accepted symbol level) different done w l = omega arith
+bytes-long false round (Accepted symbol level) different done w l = omega arith
+bytes-long true round (Refused cause) different done w l = refl
+bytes-long false round (Refused cause) different done w l = refl
+
+-- and a refusal, whatever window the session holds
+refused-long : (second : Bool) (s : Session) (cause : Cause) → length (answerTo second (refuse s cause)) ≡ 40
+unfolding answerTo answerBytes
+refused-long true s cause = refl
+refused-long false s cause = refl
 
 module _ (g : List ℕ) (t : List ℤ) (G : Good g t) where
-  answer-at : (h : List ℤ) (k : ℕ) → answerTo (stepped (sessionAt g t h k)) ≡ answerAt g t k
+  -- byte 7 is the round number: in the first version both are 0
+  number-shown : cond (isSecond g) (roundNumberIn g) 0 ≡ roundNumberIn g
+  number-shown = by-test (isSecond g)
+      (λ e. rw e)
+      (λ e. rw e (sym (no-number g (reserved-parts g (G .reserved) .0) e)))
+
+  answer-at : (h : List ℤ) (k : ℕ) → answerTo (isSecond g) (stepped (sessionAt g t h k)) ≡ answerAt g t k
   unfolding answerTo stepped sessionAt answerAt replyAt
-  answer-at h k = rw (windows g t G k)
+  answer-at h k = rw (windows g t G k, number-shown)
+
+  begin-answer-at : (h : List ℤ) → answerTo (isSecond g) (accept (sessionAt g t h 0)) ≡ beginAnswer g
+  unfolding answerTo sessionAt beginAnswer windowAfter
+  begin-answer-at h = rw (windows g t G 0, number-shown)
+
+  padded-long : (k : ℕ) → length (padded (windowAfter g k)) ≡ 16
+  padded-long k = length-padded (windowAfter g k) (omega (arith, standing g t G k .0, G .round .high))
 
   answer-long : (k : ℕ) → length (answerAt g t k) ≡ 40
-  unfolding answerAt replyAt stepReply answerBytes
-  answer-long k = omega (arith, length-padded (windowAfter g k) (omega (arith, standing g t G k .0, G .round .high)))
+  unfolding answerAt
+  answer-long k = bytes-long (isSecond g) (roundNumberIn g) (replyAt g t k) _ k (padded (windowAfter g k)) (padded-long k)
 
-  -- what an accepted step frame gets
-  stepped-answered : (h : List ℤ) (k : ℕ) (buffer : List ℕ) → Answered g t k buffer (written (stepped (sessionAt g t h k)) buffer)
+  begin-answer-long : length (beginAnswer g) ≡ 40
+  unfolding beginAnswer windowAfter
+  begin-answer-long = bytes-long (isSecond g) (roundNumberIn g) stateReply _ 0 (padded (startOf g)) (padded-long 0)
+
+  -- what an accepted step frame gets, and the begin frame
+  stepped-answered : (h : List ℤ) (k : ℕ) (buffer : List ℕ) → Answered g t k buffer (written (isSecond g) (stepped (sessionAt g t h k)) buffer)
   unfolding written stepped sessionAt replyAt
   stepped-answered h k buffer =
       let x = stepped (sessionAt g t h k) in
-      let l : length (answerTo x) ≡ 40 = ap length (answer-at h k) ∙ answer-long k in
+      let l : length (answerTo (isSecond g) x) ≡ 40 = ap length (answer-at h k) ∙ answer-long k in
       record {
         reply = rw (windows g t G k);
-        bytes = written-bytes x buffer l ∙ answer-at h k;
-        rest = written-rest x buffer l;
+        bytes = written-bytes (isSecond g) x buffer l ∙ answer-at h k;
+        rest = written-rest (isSecond g) x buffer l;
+      }
+
+  begun-answered : (h : List ℤ) (buffer : List ℕ) → Began g (sessionAt g t h 0) buffer (written (isSecond g) (accept (sessionAt g t h 0)) buffer)
+  unfolding written
+  begun-answered h buffer =
+      let x = accept (sessionAt g t h 0) in
+      let l : length (answerTo (isSecond g) x) ≡ 40 = ap length (begin-answer-at h) ∙ begin-answer-long in
+      record {
+        reply = refl;
+        session = refl;
+        bytes = written-bytes (isSecond g) x buffer l ∙ begin-answer-at h;
+        rest = written-rest (isSecond g) x buffer l;
       }
 
 -- what a refused frame gets
-rejected-written : (s : Session) (cause : Cause) (buffer : List ℕ) → 40 ≤ length buffer →
-    Rejected cause s buffer (written (refuse s cause) buffer)
+rejected-written : (s : Session) (cause : Cause) (f buffer : List ℕ) → 40 ≤ length buffer →
+    Rejected cause s f buffer (written (isSecond f) (refuse s cause) buffer)
 unfolding written answerTo answerBytes
-rejected-written s cause buffer h = record {
-  reply = refl;
-  session = refl;
-  short = λ l. absurd (omega arith);
-  bytes = λ l. written-bytes (refuse s cause) buffer refl;
-  rest = written-rest (refuse s cause) buffer refl;
-}
+rejected-written s cause f buffer h =
+    let long = refused-long (isSecond f) s cause in
+    record {
+      reply = refl;
+      session = refl;
+      short = λ l. absurd (omega arith);
+      bytes = λ l. written-bytes (isSecond f) (refuse s cause) buffer long;
+      rest = written-rest (isSecond f) (refuse s cause) buffer long;
+    }
 
-rejected-short : (s : Session) (buffer : List ℕ) → length buffer < 40 → Rejected ShortBuffer s buffer (refuse s ShortBuffer, buffer)
-rejected-short s buffer h = record {
+rejected-short : (s : Session) (f buffer : List ℕ) → length buffer < 40 → Rejected ShortBuffer s f buffer (refuse s ShortBuffer, buffer)
+rejected-short s f buffer h = record {
   reply = refl;
   session = refl;
   short = λ l. refl;
@@ -144,41 +198,84 @@ rejected-short s buffer h = record {
 
 -- ---- one step frame at the count c
 
-module _ (g : List ℕ) (t : List ℤ) (G : Good g t) (h : List ℤ) (c : ℕ) (le : c ≤ roundOf g) (x : Request)
-    (kind : kindIn (x .frame) ≡ letterS) where
+same-version : (a b : Bool) → sameVersion a b ≡ true → a ≡ b
+unfolding sameVersion
+same-version true true e = refl
+same-version true false e = absurd (false≢true e)
+same-version false true e = absurd (false≢true e)
+same-version false false e = refl
+
+-- an accepted frame is a step frame, in the begin frame's version
+accepts-parts : (g : List ℕ) (c : ℕ) (x : Request) → accepts g c (arrival x) ≡ true →
+    (kindIn (x .frame) ≡ letterS) × (isSecond (x .frame) ≡ isSecond g)
+unfolding stepsIn ofRound
+accepts-parts g c x e =
+    let f = x .frame in
+    let tests = says-and (says-eq (kindIn f) letterS) (says-and (says-itself (passes (arrival x)))
+    (says-and (says-itself (sameVersion (isSecond f) (isSecond g))) (says-itself _)))
+    in
+    let (kind, (_, (version, _))) = tests .to (accepts-steps g c (arrival x) e) in
+    (kind, same-version (isSecond f) (isSecond g) version)
+
+module _ (g : List ℕ) (t : List ℤ) (G : Good g t) (h : List ℤ) (c : ℕ) (le : c ≤ roundOf g) (x : Request) where
   -- the outcome where the count accepts, and where it does not
-  taken : accepts (roundOf g) c (arrival x) ≡ true →
-      one (sessionAt g t h c) x ≡ written (stepped (sessionAt g t h (numberIn (x .frame)))) (x .buffer)
-  taken e = elim (decLt (length (x .buffer)) 40) [
-    | yes l ↦ absurd (false≢true (sym (short-refused (roundOf g) c (arrival x) l .0) ∙ e))
-    | no l ↦ room (sessionAt g t h c) (x .frame) (x .buffer) (omega arith)
-        ∙ ap (λ y. written y (x .buffer)) (step-handled g t G h c le (arrival x) (omega arith) kind ∙ rw e)
+  taken : accepts g c (arrival x) ≡ true →
+      one (sessionAt g t h c) x ≡ written (isSecond g) (stepped (sessionAt g t h (numberIn (x .frame)))) (x .buffer)
+  taken e =
+      let (kind, version) = accepts-parts g c x e in
+      elim (decLt (length (x .buffer)) 40) [
+        | yes l ↦ absurd (false≢true (sym (short-refused g c (arrival x) l .0) ∙ e))
+        | no l ↦ room (sessionAt g t h c) (x .frame) (x .buffer) (omega arith)
+            ∙ ap₂ (λ second y. written second y (x .buffer)) version (step-handled g t G h c le (arrival x) (omega arith) kind ∙ rw e)
+      ]
+
+  module _ (kind : kindIn (x .frame) ≡ letterS) where
+    not-taken : accepts g c (arrival x) ≡ false →
+        Rejected (causeAt g c (arrival x)) (sessionAt g t h c) (x .frame) (x .buffer) (one (sessionAt g t h c) x)
+    not-taken e = elim (decLt (length (x .buffer)) 40) [
+      | yes l ↦ rw (no-room (sessionAt g t h c) (x .frame) (x .buffer) l, short-refused g c (arrival x) l .1)
+          (rejected-short (sessionAt g t h c) (x .frame) (x .buffer) l)
+      | no l ↦ rw (room (sessionAt g t h c) (x .frame) (x .buffer) (omega arith), step-handled g t G h c le (arrival x) (omega arith) kind, e)
+          (rejected-written (sessionAt g t h c) (causeAt g c (arrival x)) (x .frame) (x .buffer) (omega arith))
+    ]
+
+    one-accepted : accepted (one (sessionAt g t h c) x .0 .reply) ≡ accepts g c (arrival x)
+    unfolding accepted written stepped stepReply
+    one-accepted = by-test (accepts g c (arrival x))
+        (λ e. rw (taken e, e))
+        (λ e. rw (not-taken e .reply, e))
+
+    -- The session goes on as the count does.
+    one-session : one (sessionAt g t h c) x .0 .session ≡ sessionAt g t h (counted g c (arrival x))
+    unfolding accepts counted written stepped
+    one-session = go (step-case g c (arrival x))
+      where
+        go : StepCase g c (arrival x) → one (sessionAt g t h c) x .0 .session ≡ sessionAt g t h (counted g c (arrival x))
+        go (next-step e n u) = rw (taken (rw e), e) (ap (sessionAt g t h) n)
+        go (retransmission e e′ n u) = rw (taken (rw (e, e′)), e) (ap (sessionAt g t h) n)
+        go (neither e e′) = not-taken (rw (e, e′)) .session ∙ rw e
+
+-- ---- the begin frame again, at the count 0
+
+-- it is no step frame
+counted-begin : (g : List ℕ) (c : ℕ) (x : Request) → kindIn g ≡ letterB → x .frame ≡ g → counted g c (arrival x) ≡ c
+unfolding counted isNext stepsIn
+counted-begin g c x kind same = rw (same, kind)
+
+module _ (g : List ℕ) (t : List ℤ) (G : Good g t) (small : isBytes g ≡ true) (second : isSecond g ≡ true) (h : List ℤ) (x : Request)
+    (same : x .frame ≡ g) where
+  again-began : 40 ≤ length (x .buffer) → Began g (sessionAt g t h 0) (x .buffer) (one (sessionAt g t h 0) x)
+  again-began l =
+      rw (same, room (sessionAt g t h 0) g (x .buffer) l, again-handled g t G h small second) (begun-answered g t G h (x .buffer))
+
+  again-short : length (x .buffer) < 40 → Rejected ShortBuffer (sessionAt g t h 0) (x .frame) (x .buffer) (one (sessionAt g t h 0) x)
+  again-short l = rw (no-room (sessionAt g t h 0) (x .frame) (x .buffer) l) (rejected-short (sessionAt g t h 0) (x .frame) (x .buffer) l)
+
+  again-session : one (sessionAt g t h 0) x .0 .session ≡ sessionAt g t h 0
+  again-session = elim (decLt (length (x .buffer)) 40) [
+    | yes l ↦ again-short l .session
+    | no l ↦ again-began (omega arith) .session
   ]
-
-  not-taken : accepts (roundOf g) c (arrival x) ≡ false →
-      Rejected (causeAt c (arrival x)) (sessionAt g t h c) (x .buffer) (one (sessionAt g t h c) x)
-  not-taken e = elim (decLt (length (x .buffer)) 40) [
-    | yes l ↦ rw (no-room (sessionAt g t h c) (x .frame) (x .buffer) l, short-refused (roundOf g) c (arrival x) l .1)
-        (rejected-short (sessionAt g t h c) (x .buffer) l)
-    | no l ↦ rw (room (sessionAt g t h c) (x .frame) (x .buffer) (omega arith), step-handled g t G h c le (arrival x) (omega arith) kind, e)
-        (rejected-written (sessionAt g t h c) (causeAt c (arrival x)) (x .buffer) (omega arith))
-  ]
-
-  one-accepted : accepted (one (sessionAt g t h c) x .0 .reply) ≡ accepts (roundOf g) c (arrival x)
-  unfolding accepted written stepped stepReply
-  one-accepted = by-test (accepts (roundOf g) c (arrival x))
-      (λ e. rw (taken e, e))
-      (λ e. rw (not-taken e .reply, e))
-
-  -- The session goes on as the count does.
-  one-session : one (sessionAt g t h c) x .0 .session ≡ sessionAt g t h (counted (roundOf g) c (arrival x))
-  unfolding accepts counted written stepped
-  one-session = go (step-case (roundOf g) c (arrival x))
-    where
-      go : StepCase (roundOf g) c (arrival x) → one (sessionAt g t h c) x .0 .session ≡ sessionAt g t h (counted (roundOf g) c (arrival x))
-      go (next-step e n u) = rw (taken (rw e), e) (ap (sessionAt g t h) n)
-      go (retransmission e e′ n u) = rw (taken (rw (e, e′)), e) (ap (sessionAt g t h) n)
-      go (neither e e′) = not-taken (rw (e, e′)) .session ∙ rw e
 
 -- ---- a list of events
 
@@ -190,121 +287,182 @@ done-of : (g : List ℕ) (t h : List ℤ) (k : ℕ) → sessionAt g t h k .done 
 unfolding sessionAt
 done-of g t h k = refl
 
-tail : {e : Event} {l : List Event} → StepFrames (e ∷ l) → StepFrames l
-tail st = record { step = λ i x e. st .step (suc i) x e }
+-- the begin frame again, where the count c is 0
+record AgainAt (g : List ℕ) (c : ℕ) (x : Request) : Type 0 where
+  second : isSecond g ≡ true
+  same : x .frame ≡ g
+  unstepped : c ≡ 0
 
-module _ (g : List ℕ) (t : List ℤ) (G : Good g t) where
-  -- a frame that may stand there leaves the session at the count
-  head-session : (h : List ℤ) (c : ℕ) → c ≤ roundOf g → (x : Request) → kindIn (x .frame) ≡ letterS →
-      next (sessionAt g t h c) (question x) ≡ sessionAt g t h (counted (roundOf g) c (arrival x))
+-- a frame that may come at the count c, and a list of them from the count c on
+abbrev MayCome : List ℕ → ℕ → Request → Type 0
+MayCome g c x = (kindIn (x .frame) ≡ letterS) ⊎ AgainAt g c x
+
+record FramesFrom (g : List ℕ) (c : ℕ) (list : List Event) : Type 0 where
+  each : (i : ℕ) (x : Request) → getElem? list i ≡ some (question x) → MayCome g (countFrom g c (arrivals (take i list))) x
+
+frames-from : (g : List ℕ) (l : List Event) → FramesOf g l → FramesFrom g 0 l
+unfolding countOf
+frames-from g l frames = record {
+  each = λ i x e. ⊎-elim inl (λ b. inr (record { second = b .second; same = b .same; unstepped = b .unstepped })) (frames .each i x e);
+}
+
+head-question : {g : List ℕ} {c : ℕ} {x : Request} {l : List Event} → FramesFrom g c (question x ∷ l) → MayCome g c x
+unfolding arrivals questions countFrom
+head-question {g} {c} {x} frames = frames .each 0 x refl
+
+tail-question : {g : List ℕ} {c : ℕ} {x : Request} {l : List Event} → FramesFrom g c (question x ∷ l) → FramesFrom g (counted g c (arrival x)) l
+unfolding arrivals questions countFrom
+tail-question frames = record { each = λ i y e. frames .each (suc i) y e }
+
+tail-file : {g : List ℕ} {c : ℕ} {f : List ℕ} {l : List Event} → FramesFrom g c (levelFile f ∷ l) → FramesFrom g c l
+unfolding arrivals questions
+tail-file frames = record { each = λ i y e. frames .each (suc i) y e }
+
+module _ (g : List ℕ) (t : List ℤ) (G : Good g t) (small : isBytes g ≡ true) where
+  -- a frame that may come leaves the session at the count
+  head-session : (h : List ℤ) (c : ℕ) → c ≤ roundOf g → (x : Request) → MayCome g c x →
+      next (sessionAt g t h c) (question x) ≡ sessionAt g t h (counted g c (arrival x))
   unfolding next
-  head-session h c le x kind = one-session g t G h c le x kind
+  head-session h c le x = ⊎-elim
+      (λ kind. one-session g t G h c le x kind)
+      (λ b. rw (counted-begin g c x (G .kind) (b .same), b .unstepped) (again-session g t G small (b .second) h x (b .same)))
 
-  head-of : {x : Request} {l : List Event} → StepFrames (question x ∷ l) → kindIn (x .frame) ≡ letterS
-  head-of {x} st = st .step 0 x refl
-
-  after-take : (l : List Event) (h : List ℤ) (c : ℕ) → StepFrames l → c ≤ roundOf g → (i : ℕ) →
-      after (sessionAt g t h c) (take i l) ≡ sessionAt g t (heldAfter h (take i l)) (countFrom (roundOf g) c (arrivals (take i l)))
+  after-take : (l : List Event) (h : List ℤ) (c : ℕ) → FramesFrom g c l → c ≤ roundOf g → (i : ℕ) →
+      after (sessionAt g t h c) (take i l) ≡ sessionAt g t (heldAfter h (take i l)) (countFrom g c (arrivals (take i l)))
   unfolding after heldAfter arrivals questions countFrom
-  after-take l h c st le zero = refl
-  after-take [] h c st le (suc i) = refl
-  after-take (question x ∷ l) h c st le (suc i) =
-      ap (λ s. after s (take i l)) (head-session h c le x (head-of st))
-      ∙ after-take l h (counted (roundOf g) c (arrival x)) (tail st) (counted-le (roundOf g) c (arrival x) le) i
-  after-take (levelFile f ∷ l) h c st le (suc i) =
-      ap (λ s. after s (take i l)) (load-at g t G h c f) ∙ after-take l (tableOr h (readTable f)) c (tail st) le i
+  after-take l h c frames le zero = refl
+  after-take [] h c frames le (suc i) = refl
+  after-take (question x ∷ l) h c frames le (suc i) =
+      ap (λ s. after s (take i l)) (head-session h c le x (head-question frames))
+      ∙ after-take l h (counted g c (arrival x)) (tail-question frames) (counted-le g c (arrival x) le) i
+  after-take (levelFile f ∷ l) h c frames le (suc i) =
+      ap (λ s. after s (take i l)) (load-at g t G h c f) ∙ after-take l (tableOr h (readTable f)) c (tail-file frames) le i
 
   -- what a frame is answered does not hang on the table held
-  same-buffer : (h h′ : List ℤ) (c : ℕ) → c ≤ roundOf g → (x : Request) → kindIn (x .frame) ≡ letterS →
+  same-buffer : (h h′ : List ℤ) (c : ℕ) → c ≤ roundOf g → (x : Request) → MayCome g c x →
       one (sessionAt g t h c) x .1 ≡ one (sessionAt g t h′ c) x .1
-  same-buffer h h′ c le x kind = by-test (accepts (roundOf g) c (arrival x))
+  same-buffer h h′ c le x = ⊎-elim
+      (λ kind. by-test (accepts g c (arrival x))
       (λ e.
       let k = numberIn (x .frame) in
       let A = stepped-answered g t G h k (x .buffer) in
       let B = stepped-answered g t G h′ k (x .buffer) in
-      rw (taken g t G h c le x kind e, taken g t G h′ c le x kind e)
+      rw (taken g t G h c le x e, taken g t G h′ c le x e)
       (joined _ _ (A .bytes ∙ sym (B .bytes)) (A .rest ∙ sym (B .rest))))
-      (λ e. down (not-taken g t G h c le x kind e) (not-taken g t G h′ c le x kind e))
+      (λ e. down (not-taken g t G h c le x kind e) (not-taken g t G h′ c le x kind e)))
+      (λ b. elim (decLt (length (x .buffer)) 40) [
+        | yes l ↦ rw (b .unstepped) (down (again-short g t G small (b .second) h x (b .same) l) (again-short g t G small (b .second) h′ x (b .same) l))
+        | no l ↦
+            let A = again-began g t G small (b .second) h x (b .same) (omega arith) in
+            let B = again-began g t G small (b .second) h′ x (b .same) (omega arith) in
+            rw (b .unstepped) (joined _ _ (A .bytes ∙ sym (B .bytes)) (A .rest ∙ sym (B .rest)))
+      ])
     where
-      down : {cause : Cause} {s s′ : Session} {o o′ : Outcome} → Rejected cause s (x .buffer) o →
-          Rejected cause s′ (x .buffer) o′ → o .1 ≡ o′ .1
+      down : {cause : Cause} {s s′ : Session} {o o′ : Outcome} → Rejected cause s (x .frame) (x .buffer) o →
+          Rejected cause s′ (x .frame) (x .buffer) o′ → o .1 ≡ o′ .1
       down A B = elim (decLt (length (x .buffer)) 40) [
         | yes l ↦ A .short l ∙ sym (B .short l)
         | no l ↦ joined _ _ (A .bytes (omega arith) ∙ sym (B .bytes (omega arith))) (A .rest ∙ sym (B .rest))
       ]
 
-  loads-none : (l : List Event) (h h′ : List ℤ) (c : ℕ) → StepFrames l → c ≤ roundOf g →
+  loads-none : (l : List Event) (h h′ : List ℤ) (c : ℕ) → FramesFrom g c l → c ≤ roundOf g →
       answers (sessionAt g t h c) l ≡ answers (sessionAt g t h′ c) (map question (questions l))
   unfolding answers questions
-  loads-none [] h h′ c st le = refl
-  loads-none (question x ∷ l) h h′ c st le =
-      let here = head-of st in
+  loads-none [] h h′ c frames le = refl
+  loads-none (question x ∷ l) h h′ c frames le =
+      let here = head-question frames in
       ap₂ _∷_ (same-buffer h h′ c le x here)
       (ap (λ s. answers s l) (head-session h c le x here)
-      ∙ loads-none l h h′ (counted (roundOf g) c (arrival x)) (tail st) (counted-le (roundOf g) c (arrival x) le)
+      ∙ loads-none l h h′ (counted g c (arrival x)) (tail-question frames) (counted-le g c (arrival x) le)
       ∙ sym (ap (λ s. answers s (map question (questions l))) (head-session h′ c le x here)))
-  loads-none (levelFile f ∷ l) h h′ c st le =
-      ap (λ s. answers s l) (load-at g t G h c f) ∙ loads-none l (tableOr h (readTable f)) h′ c (tail st) le
+  loads-none (levelFile f ∷ l) h h′ c frames le =
+      ap (λ s. answers s l) (load-at g t G h c f) ∙ loads-none l (tableOr h (readTable f)) h′ c (tail-file frames) le
 
   -- the windows after the first acceptances are W_(c + 1), …, W_(c + m), where the count rises by m
-  firsts-from : (l : List Event) (h : List ℤ) (c : ℕ) → StepFrames l → c ≤ roundOf g → (m : ℕ) → countFrom (roundOf g) c (arrivals l) ≡ c + m →
-      firsts (roundOf g) c (sessionAt g t h c) l ≡ map (λ k. padded (windowAfter g k)) (numbersAfter c m)
+  firsts-from : (l : List Event) (h : List ℤ) (c : ℕ) → FramesFrom g c l → c ≤ roundOf g → (m : ℕ) → countFrom g c (arrivals l) ≡ c + m →
+      firsts g c (sessionAt g t h c) l ≡ map (λ k. padded (windowAfter g k)) (numbersAfter c m)
   unfolding firsts arrivals questions countFrom numbersAfter
-  firsts-from [] h c st le m e = let z : m ≡ 0 = omega arith in rw z
-  firsts-from (levelFile f ∷ l) h c st le m e = rw (load-at g t G h c f) (firsts-from l (tableOr h (readTable f)) c (tail st) le m e)
-  firsts-from (question x ∷ l) h c st le m e =
-      let count : ℕ → ℕ = λ k. countFrom (roundOf g) k (arrivals l) in
-      let goes = head-session h c le x (head-of st) in
-      by-test (isNext (roundOf g) c (arrival x))
+  firsts-from [] h c frames le m e = let z : m ≡ 0 = omega arith in rw z
+  firsts-from (levelFile f ∷ l) h c frames le m e = rw (load-at g t G h c f) (firsts-from l (tableOr h (readTable f)) c (tail-file frames) le m e)
+  firsts-from (question x ∷ l) h c frames le m e =
+      let count : ℕ → ℕ = λ k. countFrom g k (arrivals l) in
+      let goes = head-session h c le x (head-question frames) in
+      by-test (isNext g c (arrival x))
       (λ y.
-      let up = counted-next (roundOf g) c (arrival x) y in
-      rw (goes, up, y) (ap (λ w. w ∷ Rest) (window-of g t h (c + 1)) ∙ rises y (firsts-from l h (c + 1) (tail st)) m (ap count (sym up) ∙ e)))
+      let up = counted-next g c (arrival x) y in
+      let behind : FramesFrom g (c + 1) l = rw up at (tail-question frames) in
+      rw (goes, up, y) (ap (λ w. w ∷ Rest) (window-of g t h (c + 1)) ∙ rises y (firsts-from l h (c + 1) behind) m (ap count (sym up) ∙ e)))
       (λ y.
-      let same = counted-same (roundOf g) c (arrival x) y in
-      rw (goes, same, y) (firsts-from l h c (tail st) le m (ap count (sym same) ∙ e)))
+      let same = counted-same g c (arrival x) y in
+      let behind : FramesFrom g c l = rw same at (tail-question frames) in
+      rw (goes, same, y) (firsts-from l h c behind le m (ap count (sym same) ∙ e)))
     where
       Rest : List (List ℕ)
-      Rest = firsts (roundOf g) (c + 1) (sessionAt g t h (c + 1)) l
+      Rest = firsts g (c + 1) (sessionAt g t h (c + 1)) l
 
-      rises : isNext (roundOf g) c (arrival x) ≡ true →
-          (c + 1 ≤ roundOf g → (m : ℕ) → countFrom (roundOf g) (c + 1) (arrivals l) ≡ c + 1 + m →
+      rises : isNext g c (arrival x) ≡ true →
+          (c + 1 ≤ roundOf g → (m : ℕ) → countFrom g (c + 1) (arrivals l) ≡ c + 1 + m →
           Rest ≡ map (λ k. padded (windowAfter g k)) (numbersAfter (c + 1) m)) →
-          (m : ℕ) → countFrom (roundOf g) (c + 1) (arrivals l) ≡ c + m →
+          (m : ℕ) → countFrom g (c + 1) (arrivals l) ≡ c + m →
           padded (windowAfter g (c + 1)) ∷ Rest ≡ map (λ k. padded (windowAfter g k)) (numbersAfter c m)
-      rises y ih zero e = absurd (omega (arith, count-ge (roundOf g) (c + 1) (arrivals l)))
+      rises y ih zero e = absurd (omega (arith, count-ge g (c + 1) (arrivals l)))
       rises y ih (suc m) e =
-          let (p, (n, u)) = says-next (roundOf g) c (arrival x) .to y in
+          let (p, (n, u)) = says-next g c (arrival x) .to y in
           ap (λ r. padded (windowAfter g (c + 1)) ∷ r) (ih (omega arith) m (omega arith))
 
 -- ---- the two lists
 
--- the reference session's frames are step frames
-in-order-frames : (g : List ℕ) (l : List Event) → InOrder (roundOf g) (questions l) → StepFrames l
-in-order-frames g l order = record { step = λ i x e. order .step _ x (question-at l i x e) }
+module _ (g : List ℕ) (l : List Event) (order : InOrder g (questions l)) where
+  -- the reference session's frames are step frames
+  in-order-frames : FramesFrom g 0 l
+  in-order-frames = record { each = λ i x e. inl (order .step _ x (question-at l i x e)) }
 
--- its count is the number of its frames
-module _ (g : List ℕ) (l : List Event) (order : InOrder (roundOf g) (questions l)) where
-  count-reference : (i : ℕ) → countFrom (roundOf g) 0 (arrivals (take i l)) ≡ length (questions (take i l))
+  -- and of the round
+  in-order-steps : (i : ℕ) (x : Request) → getElem? (questions l) i ≡ some x → stepsIn g (arrival x) ≡ true
+  unfolding stepsIn
+  in-order-steps i x e = rw (order .step i x e, order .pass i x e, order .round i x e)
+
+  -- its count is the number of its frames
+  count-reference : (i : ℕ) → countFrom g 0 (arrivals (take i l)) ≡ length (questions (take i l))
   unfolding arrivals
   count-reference i =
       let n = length (questions (take i l)) in
       let (e, le) = questions-take l i in
-      ap (λ r. countFrom (roundOf g) 0 (map arrival r)) e
-      ∙ in-order (roundOf g) (questions l) 0 (omega (arith, order .long)) (λ i x e. (order .pass i x e, omega (arith, order .numbered i x e))) n le
+      ap (λ r. countFrom g 0 (map arrival r)) e
+      ∙ in-order g (questions l) 0 (omega (arith, order .long)) (λ i x e. (in-order-steps i x e, omega (arith, order .numbered i x e))) n le
       ∙ omega arith
 
-module _ (g : List ℕ) (t : List ℤ) (G : Good g t) (hR hT : List ℤ) (ordered arrived : List Event) (order : InOrder (roundOf g) (questions ordered))
-    (frames : StepFrames arrived) where
-  frames-reference : StepFrames ordered
-  frames-reference = in-order-frames g ordered order
+-- an answer hangs on the copy only where the round is on a table
+same-copy : (g : List ℕ) (t t′ : List ℤ) → (takesTable g ≡ true → t ≡ t′) → (k : ℕ) → answerAt g t k ≡ answerAt g t′ k
+unfolding answerAt replyAt stepReply levelOf levelAt onTable settingIn takesTable
+same-copy g t t′ same k = by-test (takesTable g)
+    (λ e. ap (λ u. answerAt g u k) (same e))
+    (λ e. rw e)
 
-  on-reference : (i : ℕ) → after (sessionAt g t hR 0) (take i ordered)
-      ≡ sessionAt g t (heldAfter hR (take i ordered)) (length (questions (take i ordered)))
-  on-reference i = after-take g t G ordered hR 0 frames-reference (omega arith) i ∙ ap (sessionAt g t (heldAfter hR (take i ordered))) (count-reference g ordered order i)
+module _ (R₀ T₀ : Session) (g bufferR bufferT : List ℕ) (ordered arrived : List Event) (small : isBytes g ≡ true)
+    (GR : Good g (copyAfter R₀ g)) (GT : Good g (copyAfter T₀ g)) (same : takesTable g ≡ true → copyAfter R₀ g ≡ copyAfter T₀ g)
+    (order : InOrder g (questions ordered)) (frames : FramesOf g arrived) where
+  -- the round's copies, and the tables held when the begin frame comes
+  abbrev tR : List ℤ
+  tR = copyAfter R₀ g
 
-  on-retried : (i : ℕ) → after (sessionAt g t hT 0) (take i arrived)
-      ≡ sessionAt g t (heldAfter hT (take i arrived)) (countFrom (roundOf g) 0 (arrivals (take i arrived)))
-  on-retried = after-take g t G arrived hT 0 frames (omega arith)
+  abbrev tT : List ℤ
+  tT = copyAfter T₀ g
+
+  abbrev hR : List ℤ
+  hR = R₀ .held
+
+  abbrev hT : List ℤ
+  hT = T₀ .held
+
+  on-reference : (i : ℕ) → after (sessionAt g tR hR 0) (take i ordered)
+      ≡ sessionAt g tR (heldAfter hR (take i ordered)) (length (questions (take i ordered)))
+  on-reference i = after-take g tR GR small ordered hR 0 (in-order-frames g ordered order) (omega arith) i
+      ∙ ap (sessionAt g tR (heldAfter hR (take i ordered))) (count-reference g ordered order i)
+
+  on-retried : (i : ℕ) → after (sessionAt g tT hT 0) (take i arrived)
+      ≡ sessionAt g tT (heldAfter hT (take i arrived)) (countFrom g 0 (arrivals (take i arrived)))
+  on-retried = after-take g tT GT small arrived hT 0 (frames-from g arrived frames) (omega arith)
 
   -- a frame of the reference session's, by its place among the frames
   module _ (i : ℕ) (x : Request) (e : getElem? ordered i ≡ some (question x)) where
@@ -314,138 +472,162 @@ module _ (g : List ℕ) (t : List ℤ) (G : Good g t) (hR hT : List ℤ) (ordere
     within-reference : length (questions (take i ordered)) < roundOf g
     within-reference = omega (arith, inside (questions ordered) _ x (question-at ordered i x e), order .long)
 
-    came-reference : one (after (sessionAt g t hR 0) (take i ordered)) x
-        ≡ written (stepped (sessionAt g t (heldAfter hR (take i ordered)) (numberIn (x .frame)))) (x .buffer)
+    came-reference : one (after (sessionAt g tR hR 0) (take i ordered)) x
+        ≡ written (isSecond g) (stepped (sessionAt g tR (heldAfter hR (take i ordered)) (numberIn (x .frame)))) (x .buffer)
     unfolding accepts
     came-reference =
         let n = length (questions (take i ordered)) in
-        let at = question-at ordered i x e in
-        let y : accepts (roundOf g) n (arrival x) ≡ true = rw (next-of (roundOf g) n (arrival x) (order .pass n x at) numbered-reference within-reference) in
-        ap (λ s. one s x) (on-reference i) ∙ taken g t G (heldAfter hR (take i ordered)) n (omega (arith, within-reference)) x (order .step n x at) y
+        let steps = in-order-steps g ordered order n x (question-at ordered i x e) in
+        let y : accepts g n (arrival x) ≡ true = rw (next-of g n (arrival x) steps numbered-reference within-reference) in
+        ap (λ s. one s x) (on-reference i) ∙ taken g tR GR (heldAfter hR (take i ordered)) n (omega (arith, within-reference)) x y
 
-    answers-reference : Answered g t (numberIn (x .frame)) (x .buffer) (one (after (sessionAt g t hR 0) (take i ordered)) x)
-    answers-reference = rw came-reference (stepped-answered g t G (heldAfter hR (take i ordered)) (numberIn (x .frame)) (x .buffer))
+    answers-reference : Answered g tR (numberIn (x .frame)) (x .buffer) (one (after (sessionAt g tR hR 0) (take i ordered)) x)
+    answers-reference = rw came-reference (stepped-answered g tR GR (heldAfter hR (take i ordered)) (numberIn (x .frame)) (x .buffer))
 
   -- a frame of the retried session's
-  module _ {i : ℕ} {x : Request} {c : ℕ} {o : Outcome} (p : Position g (sessionAt g t hT 0) arrived i x c o) where
-    before : after (sessionAt g t hT 0) (take i arrived) ≡ sessionAt g t (heldAfter hT (take i arrived)) c
+  module _ {i : ℕ} {x : Request} {c : ℕ} {o : Outcome} (p : Position g (sessionAt g tT hT 0) arrived i x c o) where
+    before : after (sessionAt g tT hT 0) (take i arrived) ≡ sessionAt g tT (heldAfter hT (take i arrived)) c
     unfolding countOf
-    before = on-retried i ∙ ap (sessionAt g t (heldAfter hT (take i arrived))) (p .count)
+    before = on-retried i ∙ ap (sessionAt g tT (heldAfter hT (take i arrived))) (p .count)
 
-    position : one (sessionAt g t (heldAfter hT (take i arrived)) c) x ≡ o
+    position : one (sessionAt g tT (heldAfter hT (take i arrived)) c) x ≡ o
     position = ap (λ s. one s x) (sym before) ∙ p .came
 
     within : c ≤ roundOf g
     unfolding countOf
-    within = omega (arith, count-le (roundOf g) 0 (arrivals (take i arrived)) (omega arith), p .count)
+    within = omega (arith, count-le g 0 (arrivals (take i arrived)) (omega arith), p .count)
 
-    kind : kindIn (x .frame) ≡ letterS
-    kind = frames .step i x (p .sent)
+    module _ (kind : kindIn (x .frame) ≡ letterS) where
+      accepted-retried : accepted (o .0 .reply) ≡ accepts g c (arrival x)
+      accepted-retried = rw (← position) (one-accepted g tT GT (heldAfter hT (take i arrived)) c within x kind)
 
-    accepted-retried : accepted (o .0 .reply) ≡ accepts (roundOf g) c (arrival x)
-    accepted-retried = rw (← position) (one-accepted g t G (heldAfter hT (take i arrived)) c within x kind)
+      refused-retried : accepts g c (arrival x) ≡ false →
+          Rejected (causeAt g c (arrival x)) (after (sessionAt g tT hT 0) (take i arrived)) (x .frame) (x .buffer) o
+      refused-retried y = rw (before, ← position) (not-taken g tT GT (heldAfter hT (take i arrived)) c within x kind y)
 
-    refused-retried : accepts (roundOf g) c (arrival x) ≡ false → Rejected (causeAt c (arrival x)) (after (sessionAt g t hT 0) (take i arrived)) (x .buffer) o
-    refused-retried y = rw (before, ← position) (not-taken g t G (heldAfter hT (take i arrived)) c within x kind y)
-
-    module _ (y : accepts (roundOf g) c (arrival x) ≡ true) where
-      answers-retried : Answered g t (numberIn (x .frame)) (x .buffer) o
+    module _ (y : accepts g c (arrival x) ≡ true) where
+      answers-retried : Answered g tT (numberIn (x .frame)) (x .buffer) o
       answers-retried =
-          rw (← position, taken g t G (heldAfter hT (take i arrived)) c within x kind y)
-          (stepped-answered g t G (heldAfter hT (take i arrived)) (numberIn (x .frame)) (x .buffer))
+          rw (← position, taken g tT GT (heldAfter hT (take i arrived)) c within x y)
+          (stepped-answered g tT GT (heldAfter hT (take i arrived)) (numberIn (x .frame)) (x .buffer))
 
-      same-answer : SameAnswer (sessionAt g t hR 0) ordered (numberIn (x .frame)) o
+      same-answer : SameAnswer (sessionAt g tR hR 0) ordered (numberIn (x .frame)) o
       same-answer =
           let k = numberIn (x .frame) in
-          let (low, high) = number-between (roundOf g) c (arrival x) within y in
+          let (low, high) = number-between g c (arrival x) within y in
           let r = found ordered (k - 1) (omega (arith, order .long)) in
           let n : numberIn (r .frame .frame) ≡ k = omega (arith, numbered-reference (r .at) (r .frame) (r .sent), r .before) in
+          let reference = answers-reference (r .at) (r .frame) (r .sent) in
           record {
             at = r .at;
             other = r .frame;
             sent = r .sent;
             numbered = n;
-            same = answers-retried .bytes ∙ ap (answerAt g t) (sym n) ∙ sym (answers-reference (r .at) (r .frame) (r .sent) .bytes);
+            same = answers-retried .bytes ∙ sym (same-copy g tR tT same k) ∙ ap (answerAt g tR) (sym n) ∙ sym (reference .bytes);
           }
 
-  end-within : countFrom (roundOf g) 0 (arrivals arrived) ≤ roundOf g
-  end-within = count-le (roundOf g) 0 (arrivals arrived) (omega arith)
+    -- the begin frame again
+    module _ (e : x .frame ≡ g) where
+      unstepped : AgainAt g c x
+      unfolding countOf
+      unstepped = ⊎-elim
+          (λ kind. absurd (omega (arith, sym (ap kindIn e) ∙ kind, GT .kind)))
+          (λ b. record { second = b .second; same = e; unstepped = sym (p .count) ∙ b .unstepped })
+          (frames .each i x (p .sent))
 
-  end-retried : after (sessionAt g t hT 0) arrived ≡ sessionAt g t (heldAfter hT arrived) (countFrom (roundOf g) 0 (arrivals arrived))
+      again-retried : 40 ≤ length (x .buffer) → Began g (after (sessionAt g tT hT 0) (take i arrived)) (x .buffer) o
+      again-retried l =
+          rw (before, ← position, unstepped .unstepped)
+          (again-began g tT GT small (unstepped .second) (heldAfter hT (take i arrived)) x e l)
+
+      short-retried : length (x .buffer) < 40 → Rejected ShortBuffer (after (sessionAt g tT hT 0) (take i arrived)) (x .frame) (x .buffer) o
+      short-retried l =
+          rw (before, ← position, unstepped .unstepped)
+          (again-short g tT GT small (unstepped .second) (heldAfter hT (take i arrived)) x e l)
+
+  end-within : countFrom g 0 (arrivals arrived) ≤ roundOf g
+  end-within = count-le g 0 (arrivals arrived) (omega arith)
+
+  end-retried : after (sessionAt g tT hT 0) arrived ≡ sessionAt g tT (heldAfter hT arrived) (countFrom g 0 (arrivals arrived))
   end-retried = rw take-length at (on-retried (length arrived))
 
-  done-retried : after (sessionAt g t hT 0) arrived .done ≡ countFrom (roundOf g) 0 (arrivals arrived)
-  done-retried = ap (λ s. s .done) end-retried ∙ done-of g t _ _
+  done-retried : after (sessionAt g tT hT 0) arrived .done ≡ countFrom g 0 (arrivals arrived)
+  done-retried = ap (λ s. s .done) end-retried ∙ done-of g tT _ _
 
-  reached : (i : ℕ) × (length (questions (take i ordered)) ≡ countFrom (roundOf g) 0 (arrivals arrived))
+  reached : (i : ℕ) × (length (questions (take i ordered)) ≡ countFrom g 0 (arrivals arrived))
   reached = reach ordered _ (omega (arith, end-within, order .long))
 
   -- the reference session after as many frames as the count
-  module _ (i : ℕ) (e : length (questions (take i ordered)) ≡ countFrom (roundOf g) 0 (arrivals arrived)) where
-    same-done : after (sessionAt g t hT 0) arrived .done ≡ after (sessionAt g t hR 0) (take i ordered) .done
-    same-done = done-retried ∙ sym (ap (λ s. s .done) (on-reference i) ∙ done-of g t _ _ ∙ e)
+  module _ (i : ℕ) (e : length (questions (take i ordered)) ≡ countFrom g 0 (arrivals arrived)) where
+    same-done : after (sessionAt g tT hT 0) arrived .done ≡ after (sessionAt g tR hR 0) (take i ordered) .done
+    same-done = done-retried ∙ sym (ap (λ s. s .done) (on-reference i) ∙ done-of g tR _ _ ∙ e)
 
-    same-window : after (sessionAt g t hT 0) arrived .window ≡ after (sessionAt g t hR 0) (take i ordered) .window
-    same-window = ap (λ s. s .window) end-retried ∙ window-of g t _ _ ∙ ap (λ k. padded (windowAfter g k)) (sym e)
-        ∙ sym (ap (λ s. s .window) (on-reference i) ∙ window-of g t _ _)
+    same-window : after (sessionAt g tT hT 0) arrived .window ≡ after (sessionAt g tR hR 0) (take i ordered) .window
+    same-window = ap (λ s. s .window) end-retried ∙ window-of g tT _ _ ∙ ap (λ k. padded (windowAfter g k)) (sym e)
+        ∙ sym (ap (λ s. s .window) (on-reference i) ∙ window-of g tR _ _)
 
-  whole-reference : countFrom (roundOf g) 0 (arrivals ordered) ≡ roundOf g
+  whole-reference : countFrom g 0 (arrivals ordered) ≡ roundOf g
   whole-reference = rw take-length at (count-reference g ordered order (length ordered)) ∙ order .long
 
--- the two lists behind a begin frame that both sessions accepted, where the round's copies are the same
-module _ (R₀ T₀ : Session) (g : List ℕ) (G : Good g (tableFor g (R₀ .held))) (same : tableFor g (T₀ .held) ≡ tableFor g (R₀ .held))
-    (ordered arrived : List Event) (order : InOrder (roundOf g) (questions ordered)) (frames : StepFrames arrived) where
-  both : ExactlyOnce g R₀ T₀ (sessionAt g (tableFor g (R₀ .held)) (R₀ .held) 0) (sessionAt g (tableFor g (R₀ .held)) (T₀ .held) 0) ordered arrived
-  unfolding countOf
-  both =
-      let t = tableFor g (R₀ .held) in
-      let hR = R₀ .held in
-      let hT = T₀ .held in
-      record {
-        left-reference = refl;
-        left-retried = rw same;
-        accepted-retried = λ p. accepted-retried g t G hR hT ordered arrived order frames p;
-        answered-retried = λ p y. rw same (answers-retried g t G hR hT ordered arrived order frames p y, same-answer g t G hR hT ordered arrived order frames p y);
-        answered-reference = λ {i} {x} {c} {o} p.
-            subst (Answered g t (numberIn (x .frame)) (x .buffer)) (p .came) (answers-reference g t G hR hT ordered arrived order frames i x (p .sent));
-        refused-retried = λ p y. refused-retried g t G hR hT ordered arrived order frames p y;
-        count-within = λ i. count-le (roundOf g) 0 (arrivals (take i arrived)) (omega arith);
-        end-within = end-within g t G hR hT ordered arrived order frames;
-        on-retried = rw same (on-retried g t G hR hT ordered arrived order frames);
-        end-retried = rw same (end-retried g t G hR hT ordered arrived order frames);
-        on-reference = on-reference g t G hR hT ordered arrived order frames;
-        begun = rw same (begun-at g t G);
-        done-retried = done-retried g t G hR hT ordered arrived order frames;
-        reached = reached g t G hR hT ordered arrived order frames;
-        same-done = same-done g t G hR hT ordered arrived order frames;
-        same-window = same-window g t G hR hT ordered arrived order frames;
-        loads-reference = loads-none g t G ordered hR hR 0 (in-order-frames g ordered order) (omega arith);
-        loads-retried = loads-none g t G arrived hT hT 0 frames (omega arith);
-        listing = listing g t G;
-        firsts-reference = firsts-from g t G ordered hR 0 (in-order-frames g ordered order) (omega arith) (roundOf g)
-            (whole-reference g t G hR hT ordered arrived order frames ∙ omega arith);
-        firsts-retried = firsts-from g t G arrived hT 0 frames (omega arith) (countOf g (arrivals arrived)) (omega arith);
-      }
+  both : ExactlyOnce g R₀ T₀ bufferR bufferT (written (isSecond g) (accept (sessionAt g tR hR 0)) bufferR)
+      (written (isSecond g) (accept (sessionAt g tT hT 0)) bufferT) ordered arrived
+  unfolding countOf written
+  both = record {
+    began-reference = begun-answered g tR GR hR bufferR;
+    began-retried = begun-answered g tT GT hT bufferT;
+    accepted-retried = λ p kind. accepted-retried p kind;
+    answered-retried = λ p y. (answers-retried p y, same-answer p y);
+    answered-reference = λ {i} {x} {c} {o} p.
+        subst (Answered g tR (numberIn (x .frame)) (x .buffer)) (p .came) (answers-reference i x (p .sent));
+    refused-retried = λ p kind y. refused-retried p kind y;
+    again-retried = λ p e l. again-retried p e l;
+    short-retried = λ p e l. short-retried p e l;
+    count-within = λ i. count-le g 0 (arrivals (take i arrived)) (omega arith);
+    end-within = end-within;
+    on-retried = on-retried;
+    end-retried = end-retried;
+    on-reference = on-reference;
+    begun-reference = begun-at g tR GR;
+    begun-retried = begun-at g tT GT;
+    done-retried = done-retried;
+    reached = reached;
+    same-done = same-done;
+    same-window = same-window;
+    loads-reference = loads-none g tR GR small ordered hR hR 0 (in-order-frames g ordered order) (omega arith);
+    loads-retried = loads-none g tT GT small arrived hT hT 0 (frames-from g arrived frames) (omega arith);
+    listing = listing g tR GR;
+    firsts-reference = firsts-from g tR GR small ordered hR 0 (in-order-frames g ordered order) (omega arith) (roundOf g)
+        (whole-reference ∙ omega arith);
+    firsts-retried = firsts-from g tT GT small arrived hT 0 (frames-from g arrived frames) (omega arith) (countOf g (arrivals arrived)) (omega arith);
+  }
 
-begin-left : (s : Session) (g buffer : List ℕ) → kindIn g ≡ letterB → accepted (exchange s g buffer .0 .reply) ≡ true →
-    Good g (tableFor g (s .held)) × (exchange s g buffer .0 .session ≡ sessionAt g (tableFor g (s .held)) (s .held) 0)
-begin-left s g buffer kind e =
-    let (q, ok) = begin-taken s g kind buffer e in
-    let G = good g (s .held) ok in
-    (G, q ∙ begin-at g (s .held) G)
+-- ---- the begin frame
 
--- the round's copies are the same, on a table round by what is supposed, on any other because there is none
-same-copy : (g : List ℕ) (h h′ : List ℤ) → (takesTable g ≡ true → h ≡ h′) → tableFor g h ≡ tableFor g h′
-unfolding tableFor
-same-copy g h h′ same = by-test (takesTable g)
-    (λ e. rw e (same e))
-    (λ e. rw e)
+-- a session that accepted it, where the round's copy is t
+record Left (s : Session) (g buffer : List ℕ) (t : List ℤ) : Type 0 where
+  good : Good g t
+  came : exchange s g buffer ≡ written (isSecond g) (accept (sessionAt g t (s .held) 0)) buffer
+
+left : (s : Session) (g buffer : List ℕ) → kindIn g ≡ letterB → accepted (exchange s g buffer .0 .reply) ≡ true →
+    Left s g buffer (copyAfter s g)
+unfolding copyAfter
+left s g buffer kind e = let (l, b) = begin-taken s g kind buffer e in go l b
+  where
+    go : 40 ≤ length buffer → Begins s g (handle s g) → Left s g buffer (copyAfter s g)
+    go l (again long y q) =
+        let x = says-again s g .to y in
+        rw y (record {
+          good = again-good s g long x;
+          came = room s g buffer l ∙ ap (λ x. written (isSecond g) x buffer) (q ∙ ap accept (again-from s g long x));
+        })
+    go l (anew G y q) = rw y (record {
+      good = G;
+      came = room s g buffer l ∙ ap (λ x. written (isSecond g) x buffer) (q ∙ ap accept (anew-at g (s .held) G));
+    })
 
 -- Document 01's demand 3.
 pub steps-exactly-once : StepsExactlyOnce
-steps-exactly-once R₀ T₀ g bufferR bufferT ordered arrived kind accepted-reference accepted-retried same order frames =
-    let (GR, qR) = begin-left R₀ g bufferR kind accepted-reference in
-    let (GT, qT) = begin-left T₀ g bufferT kind accepted-retried in
-    let c = sym (same-copy g (R₀ .held) (T₀ .held) same) in
-    let qT′ = qT ∙ ap (λ t. sessionAt g t (T₀ .held) 0) c in
-    rw (qR, qT′) (both R₀ T₀ g GR c ordered arrived order frames)
+steps-exactly-once R₀ T₀ g bufferR bufferT ordered arrived small kind accepted-R accepted-T same order frames =
+    let R = left R₀ g bufferR kind accepted-R in
+    let T = left T₀ g bufferT kind accepted-T in
+    rw (R .came, T .came) (both R₀ T₀ g bufferR bufferT ordered arrived small (R .good) (T .good) same order frames)

@@ -1,8 +1,12 @@
+pub mod Accepted
 pub mod Begun
 pub mod Cases
+pub mod Coding
 pub mod Handling
 pub mod Standing
 pub mod Counting
 pub mod ExactlyOnce
+pub mod Leaves
 pub mod RoundLevels
 pub mod Worked
+pub mod RoundNumbers

@@ -22,7 +22,7 @@ use Rattle.frames.specs.Fields.{ascii, bytes64}
 use Rattle.frames.specs.Question.{numberIn}
 use Rattle.stepper.specs.declared.session.Session.{Session}
 use Rattle.level_files.specs.LevelFile.{tableText}
-use Rattle.stepper.specs.Exchange.{hasBegun, fresh, exchange, withTable, loadLevels}
+use Rattle.stepper.specs.Exchange.{hasBegun, fresh, accept, exchange, withTable, loadLevels}
 use Rattle.stepper.specs.ExactlyOnce.{roundOf, countOf, Event, question, levelFile, arrivals, next, answers, firsts, ExactlyOnce}
 
 -- a B frame, an S frame numbered k < 256, a Q frame
@@ -63,6 +63,8 @@ unfoldable pub odd : Session
 odd =
     record {
       begun = 1;
+      version = 2;
+      round = 9;
       n = 200;
       rule = 9;
       setting = settingOf (negsuc 32767) 0;
@@ -86,6 +88,8 @@ unfoldable pub spaced : ℕ → Session
 spaced d =
     record {
       begun = 1;
+      version = 1;
+      round = 0;
       n = 2;
       rule = 1;
       setting = settingOf (negsuc 999) d;
@@ -103,14 +107,14 @@ pub record Instance : Type 0 where
       ∷ Refused FrameHeader ∷ Refused ReservedByte ∷ Refused StepNumber ∷ Accepted 1 (negsuc 999)
       ∷ Accepted 1 (negsuc 999) ∷ Refused RoundFinished ∷ Accepted 1 (negsuc 999) ∷ []
   pub count : countOf beginning (arrivals arrived) ≡ 3
-  pub windows : map (take 2) (firsts 3 0 leftRetried arrived) ≡ (1 ∷ 2 ∷ []) ∷ (2 ∷ 1 ∷ []) ∷ (1 ∷ 1 ∷ []) ∷ []
+  pub windows : map (take 2) (firsts beginning 0 leftRetried arrived) ≡ (1 ∷ 2 ∷ []) ∷ (2 ∷ 1 ∷ []) ∷ (1 ∷ 1 ∷ []) ∷ []
   -- the buffers of the first, the third and the fourth frame
   pub answer : getElem? (answers leftRetried arrived) 0
       ≡ some (ascii "WKA1" ++ (0 ∷ 2 ∷ 2 ∷ 0 ∷ 1 ∷ []) ++ replicate 7 0
       ++ (180 ∷ 251 ∷ 255 ∷ 255 ∷ 0 ∷ 0 ∷ 0 ∷ 0 ∷ 1 ∷ 2 ∷ []) ++ replicate 14 0 ++ (7 ∷ 7 ∷ []))
   pub untouched : getElem? (answers leftRetried arrived) 2 ≡ some (replicate 39 7)
   pub refusal : getElem? (answers leftRetried arrived) 3 ≡ some (ascii "WKA1" ++ (11 ∷ []) ++ replicate 35 0)
-  pub both : ExactlyOnce beginning fresh odd leftReference leftRetried ordered arrived
+  pub both : ExactlyOnce beginning fresh odd (lent 40) (lent 45) (exchange fresh beginning (lent 40)) (exchange odd beginning (lent 45)) ordered arrived
   pub levels : Levels (leftReference .rule) (leftReference .setting) (take (leftReference .n) (leftReference .window))
 
 -- Tables: two good ones, 2000, 1500, … and 0, -25, …; and one whose second level is its first.
@@ -129,7 +133,17 @@ holding = withTable fresh coarse
 
 unfoldable pub oddHolding : Session
 oddHolding =
-    record { begun = 9; n = 200; rule = 9; setting = settingOf (pos 0) 0; window = replicate 16 255; done = 77; held = coarse }
+    record {
+      begun = 9;
+      version = 9;
+      round = 9;
+      n = 200;
+      rule = 9;
+      setting = settingOf (pos 0) 0;
+      window = replicate 16 255;
+      done = 77;
+      held = coarse;
+    }
 
 -- the begin frame with top 0 and spacing 0, and the sessions that it leaves
 unfoldable pub beginningOnTable : List ℕ
@@ -150,19 +164,22 @@ arrivedLoads =
 
 -- a round on a table: levels come from its copy, whatever is loaded later
 pub record TableInstance : Type 0 where
-  pub loads : loadLevels fresh (tableText coarse) ≡ record { session = holding; reply = stateReply }
+  pub loads : loadLevels fresh (tableText coarse) ≡ accept holding
   pub accepted-reference : accepted (exchange holding beginningOnTable (lent 40) .0 .reply) ≡ true
   pub accepted-retried : accepted (exchange oddHolding beginningOnTable (lent 40) .0 .reply) ≡ true
   pub replied : replies leftOdd arrivedLoads
       ≡ Accepted 2 (pos 1500) ∷ stateReply ∷ Accepted 2 (pos 1500) ∷ Refused LevelFile ∷ Accepted 1 (pos 2000) ∷ Accepted 1 (pos 2000) ∷ []
-  pub both : ExactlyOnce beginningOnTable holding oddHolding leftHolding leftOdd orderedLoads arrivedLoads
+  pub both : ExactlyOnce beginningOnTable holding oddHolding (lent 40) (lent 40) (exchange holding beginningOnTable (lent 40))
+      (exchange oddHolding beginningOnTable (lent 40)) orderedLoads arrivedLoads
   pub levels : Levels (leftHolding .rule) (leftHolding .setting) (take (leftHolding .n) (leftHolding .window))
 
--- a session on a table as a device may have kept it: the round's copy, and the table held
-unfoldable pub kept : List ℤ → List ℤ → Session
-kept copy held =
+-- a session on a table as a device may have kept it: version and round number, the round's copy, and the table held; and one of a WKO1 round
+unfoldable pub keptIn : ℕ → ℕ → List ℤ → List ℤ → Session
+keptIn version round copy held =
     record {
       begun = 1;
+      version = version;
+      round = round;
       n = 2;
       rule = 1;
       setting = record { top = pos 0; spacing = 0; table = copy };
@@ -170,6 +187,9 @@ kept copy held =
       done = 0;
       held = held;
     }
+
+unfoldable pub kept : List ℤ → List ℤ → Session
+kept = keptIn 1 0
 
 -- what is judged by the table held, and what by the copy
 pub record Tables : Type 0 where
@@ -204,9 +224,10 @@ pub record Fields : Type 0 where
   pub heights : exchange leftHeights (stepping 1) (lent 40) .0 .reply ≡ Accepted 1 (negsuc 1099)
 
 pub record Refusals : Type 0 where
-  pub header : Refuses ((0, 0) ∷ (1, 0) ∷ (2, code "A") ∷ (3, code "2") ∷ []) FrameHeader
+  pub header : Refuses ((0, 0) ∷ (1, 0) ∷ (2, code "A") ∷ (3, code "3") ∷ []) FrameHeader
   pub kind : Refuses ((4, 0) ∷ (4, code "b") ∷ []) FrameKind
-  pub reserved : Refuses ((7, 1) ∷ (8, 1) ∷ (15, 1) ∷ (20, 1) ∷ (23, 1) ∷ []) ReservedByte
+  -- with a 2 at 3 it is of the second version, and has no round number
+  pub reserved : Refuses ((3, code "2") ∷ (7, 1) ∷ (8, 1) ∷ (15, 1) ∷ (20, 1) ∷ (23, 1) ∷ []) ReservedByte
   pub length : Refuses ((5, 0) ∷ (5, 17) ∷ (5, 255) ∷ []) WindowLength
   pub rule : Refuses ((6, 0) ∷ (6, 4) ∷ []) RuleNumber
   pub window : Refuses ((24, 0) ∷ (25, 3) ∷ (26, 1) ∷ (39, 1) ∷ (6, 2) ∷ []) NotWeakOrder

@@ -2,3 +2,4 @@ pub mod Exchange
 pub mod ExactlyOnce
 pub mod RoundLevels
 pub mod Example
+pub mod RoundNumbers

@@ -7,6 +7,6 @@ use Rattle.stepper.specs.declared.session.Session.{Session}
 use Rattle.stepper.specs.Exchange.{hasBegun}
 
 -- Whatever window a session that counts as begun holds, its levels tie just where its symbols do, and fall as they grow. An accepted begin
--- frame leaves such a session, and so does every step after it (`begun` of `ExactlyOnce`).
+-- frame leaves such a session, and so does every step after it (`begun-reference` and `begun-retried` of `ExactlyOnce`).
 abbrev pub RoundLevels : Type 0
 RoundLevels = (s : Session) → hasBegun s ≡ true → Levels (s .rule) (s .setting) (take (s .n) (s .window))

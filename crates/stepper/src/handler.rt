@@ -1,9 +1,11 @@
 // A frame whose answer has room: its tests in order, and its answer.
-ghost use mathlib.Core.Bool.{true};
+ghost use mathlib.Core.Bool.{true, cond};
 ghost use mathlib.Core.Path.{_≡_};
 ghost use lib.ListN.{length};
 ghost use Rattle.frames.specs.Answer.{accepted};
-ghost use Rattle.stepper.specs.Exchange.{tableFor, roundIn, hasBegun, beginFrame, stepFrame, queryFrame, handle, answerTo};
+ghost use Rattle.frames.specs.Question.{isSecond};
+ghost use Rattle.stepper.specs.Exchange.{hasBegun, tableFor, versionOf, roundIn, beginAnew, beginFrame, stepFrame, queryFrame, handle};
+ghost use Rattle.stepper.specs.Exchange.{answerTo};
 use crate::session;
 use crate::session::Exchanged;
 use crate::session::Session;
@@ -31,20 +33,57 @@ fn table_for(f: [u8; 40], held: [i16; 16]) -> [i16; 16]
     [0i16; 16]
 }
 
+// The version of the session that a begin frame asks for.
+fn version_in(f: [u8; 40]) -> u8
+    ensures { λ r. ⌜ r ≡ versionOf (isSecond f) ⌝ }
+{
+    if question::is_second(&f) {
+        return 2;
+    }
+    1
+}
+
 // The session that a begin frame asks for.
 fn round_in(f: [u8; 40], held: [i16; 16]) -> Session
     ensures { λ r. ⌜ r ≡ roundIn f held ⌝ }
 {
     let setting = question::setting_in(f, table_for(f, held));
     let window = question::window_in(f);
+    let version = version_in(f);
     Session {
         begun: 1,
+        version: version,
+        round: f[7],
         n: f[5] as usize,
         rule: f[6],
         setting: setting,
         window: window,
         done: 0,
         held: held,
+    }
+}
+
+// A begin frame for a new round: tests 6 to 9, and 19.
+fn begin_anew(session: Session, f: [u8; 40]) -> Exchanged
+    ensures { λ r. ⌜ r ≡ beginAnew session f ⌝ }
+{
+    let held = session.held;
+    let next = round_in(f, held);
+    let reply = session::begin_reply(next);
+    match reply {
+        Reply::Refused(cause) => session.refuse(cause),
+        Reply::Accepted {
+            symbol: _,
+            level: _,
+        } => {
+            if session.takes_number(f) {
+                return session.refuse(Cause::RoundInForce);
+            }
+            Exchanged {
+                session: next,
+                reply: reply,
+            }
+        }
     }
 }
 
@@ -55,19 +94,10 @@ fn begin_frame(session: Session, f: [u8; 40]) -> Exchanged
     if !question::reserved_begin(f) {
         return session.refuse(Cause::ReservedByte);
     }
-    let held = session.held;
-    let next = round_in(f, held);
-    let reply = session::begin_reply(next);
-    match reply {
-        Reply::Accepted {
-            symbol: _,
-            level: _,
-        } => Exchanged {
-            session: next,
-            reply: reply,
-        },
-        Reply::Refused(cause) => session.refuse(cause),
+    if session.is_again(f) {
+        return session.accept();
     }
+    begin_anew(session, f)
 }
 
 fn step_frame(session: Session, f: [u8; 40]) -> Exchanged
@@ -76,7 +106,9 @@ fn step_frame(session: Session, f: [u8; 40]) -> Exchanged
     if !question::reserved_step(f) {
         return session.refuse(Cause::ReservedByte);
     }
-    session.step(question::number_in(f))
+    let second = question::is_second(&f);
+    let round = f[7];
+    session.step(second, round, question::number_in(f))
 }
 
 fn query_frame(session: Session, f: [u8; 40]) -> Exchanged
@@ -85,7 +117,7 @@ fn query_frame(session: Session, f: [u8; 40]) -> Exchanged
     if !question::reserved_query(f) {
         return session.refuse(Cause::ReservedByte);
     }
-    session.query()
+    session.query(question::is_second(&f))
 }
 
 // Tests 2 to 4, then by kind.
@@ -108,15 +140,27 @@ pub(crate) fn handle(session: Session, frame: &[u8]) -> Exchanged
     }
 }
 
-// The forty bytes of an answer. An accepted frame leaves a session that has begun, whose symbols fit the bits of a u32.
-pub(crate) fn answer_to(x: Exchanged) -> [u8; 40]
+// The round number in an accepted answer: that of a WKO2 round.
+fn round_shown(second: bool, round: u8) -> u8
+    ensures { λ r. ⌜ r ≡ cond second round 0 ⌝ }
+{
+    if second {
+        return round;
+    }
+    0
+}
+
+// The forty bytes of an answer to a frame of the second version or another. An accepted frame leaves a session that has begun, whose symbols fit
+// the bits of a u32.
+pub(crate) fn answer_to(x: Exchanged, second: bool) -> [u8; 40]
     requires { ⌜ (accepted (x .reply) ≡ true → hasBegun (x .session) ≡ true) ⌝ }
-    ensures { λ r. ⌜ r ≡ answerTo x ⌝ }
+    ensures { λ r. ⌜ r ≡ answerTo second x ⌝ }
 {
     let session = x.session;
     let reply = x.reply;
     let w = session.window;
     let n = session.n;
+    let round = round_shown(second, session.round);
     let different = weak_orders::different(w, n) as u8;
-    frames::answer::answer_bytes(reply, different, session.done, w)
+    frames::answer::answer_bytes(second, round, reply, different, session.done, w)
 }

@@ -6,7 +6,7 @@ pub mod session;
 
 ghost use mathlib.Core.Path.{_≡_};
 ghost use Rattle.stepper.specs.Exchange.{exchange, loadLevels};
-use frames::answer::Reply;
+use frames::question;
 use refusals::Cause;
 use session::Exchanged;
 use session::Session;
@@ -18,8 +18,9 @@ pub fn exchange(session: Session, frame: &[u8], answer: &mut [u8]) -> Exchanged
     if answer.len() < 40 {
         return session.refuse(Cause::ShortBuffer);
     }
+    let second = question::is_second(frame);
     let x = handler::handle(session, frame);
-    let bytes = handler::answer_to(x);
+    let bytes = handler::answer_to(x, second);
     bytes::copy(&bytes, answer);
     x
 }
@@ -35,11 +36,5 @@ pub fn load_levels(session: Session, file: &[u8]) -> Exchanged
     let table = read.table;
     let mut next = session;
     next.held = table;
-    Exchanged {
-        session: next,
-        reply: Reply::Accepted {
-            symbol: 0,
-            level: 0,
-        },
-    }
+    next.accept()
 }

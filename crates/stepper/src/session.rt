@@ -9,17 +9,22 @@ ghost use Rattle.weak_orders.specs.Window.{isLength};
 ghost use Rattle.ranking.specs.Counts.{a};
 ghost use Rattle.successors.specs.Rules.{ruleOf};
 ghost use Rattle.frames.specs.Fields.{zeros};
-ghost use Rattle.stepper.specs.Exchange.{replyIf, beginReply, begunIf, hasBegun, fresh, refuse, onward, stepped, stepOf, queryOf};
+ghost use Rattle.stepper.specs.Exchange.{replyIf, beginReply, inSecond, isNumbered, begunIf, hasBegun, fresh, refuse, accept, inForce};
+ghost use Rattle.stepper.specs.Exchange.{isAgain, takesNumber, onward, stepped, sameVersion, ifBegun, stepNumbered, stepOf, queryOf};
 use frames::answer::Reply;
+use frames::question;
 use levels::Setting;
 use refusals::Cause;
 use successors::Next;
 
 // A session. Any values of the fields may be handed in; `has_begun` judges them. `begun` is a byte, since a session that a device kept
-// may hold any: 1 has begun, every other value has not. `held` is the level table loaded last; a round on a table has a copy in its setting.
+// may hold any: 1 has begun, every other value has not. So is `version`, that of the begin frame in force: 2 is WKO2, every other value WKO1.
+// `round` is the round number of a WKO2 round. `held` is the level table loaded last; a round on a table has a copy in its setting.
 #[repr(C)]
 pub struct Session {
     pub begun: u8,
+    pub version: u8,
+    pub round: u8,
     pub n: usize,
     pub rule: u8,
     pub setting: Setting,
@@ -83,6 +88,8 @@ impl Session {
     {
         Session {
             begun: 0,
+            version: 1,
+            round: 0,
             n: 0,
             rule: 0,
             setting: levels::setting_of(0, 0),
@@ -102,6 +109,26 @@ impl Session {
         }
     }
 
+    // A frame without a symbol and a level is accepted, or a level file, and leaves this session.
+    pub fn accept(self) -> Exchanged
+        ensures { λ r. ⌜ r ≡ accept self ⌝ }
+    {
+        Exchanged {
+            session: self,
+            reply: Reply::Accepted {
+                symbol: 0,
+                level: 0,
+            },
+        }
+    }
+
+    // A WKO2 round is not numbered 0.
+    fn is_numbered(self) -> bool
+        ensures { λ r. ⌜ r ≡ isNumbered self ⌝ }
+    {
+        !((self.version == 2) & (self.round == 0))
+    }
+
     // Document 01's "counts as begun", where `formed` says whether the window is in the rule's form.
     fn begun_if(self, formed: bool) -> bool
         ensures { λ r. ⌜ r ≡ begunIf self formed ⌝ }
@@ -117,7 +144,7 @@ impl Session {
             Reply::Accepted {
                 symbol: _,
                 level: _,
-            } => done <= ranking::weak_order_count(n),
+            } => (done <= ranking::weak_order_count(n)) & self.is_numbered(),
             Reply::Refused(_) => false,
         }
     }
@@ -127,6 +154,57 @@ impl Session {
     {
         let w = self.window;
         self.begun_if(successors::in_form(self.rule, w, self.n))
+    }
+
+    // A WKO2 round is in force.
+    fn in_force(self) -> bool
+        ensures { λ r. ⌜ r ≡ inForce self ⌝ }
+    {
+        self.has_begun() & (self.version == 2)
+    }
+
+    // The begin frame in force again, with no step done: while none is, the session gives its forty bytes back.
+    pub fn is_again(self, f: [u8; 40]) -> bool
+        ensures { λ r. ⌜ r ≡ isAgain self f ⌝ }
+    {
+        let n = self.n;
+        let done = self.done;
+        let setting = self.setting;
+        let window = self.window;
+        if !self.in_force() {
+            return false;
+        }
+        let begun_by = question::begin_bytes(true, n as u8, self.rule, self.round, setting, window);
+        (done == 0) & check::same(&f, &begun_by)
+    }
+
+    // A begin frame with the round number of the WKO2 round in force.
+    pub fn takes_number(self, f: [u8; 40]) -> bool
+        ensures { λ r. ⌜ r ≡ takesNumber self f ⌝ }
+    {
+        let round = f[7];
+        let second = question::is_second(&f);
+        self.in_force() & (second & (round == self.round))
+    }
+
+    // A frame of the second version, or of the first, is in the version of the round.
+    fn is_version(self, second: bool) -> bool
+        ensures { λ r. ⌜ r ≡ sameVersion second (inSecond self) ⌝ }
+    {
+        if second {
+            return self.version == 2;
+        }
+        self.version != 2
+    }
+
+    // A refusal that comes behind test 10.
+    fn refuse_begun(self, cause: Cause) -> Exchanged
+        ensures { λ r. ⌜ r ≡ ifBegun self (refuse self cause) ⌝ }
+    {
+        if !self.has_begun() {
+            return self.refuse(Cause::NotBegun);
+        }
+        self.refuse(cause)
     }
 
     // The symbol appended, and one more step done, which is `number`.
@@ -175,7 +253,7 @@ impl Session {
     // The next step. What gives the symbol tests the window's form, so that it is tested once a frame.
     fn next_step(self, number: u64) -> Exchanged
         requires { ⌜ (number ≡ self .done + 1) × (self .done < cond (leb (self .n) 16) (a (self .n)) 0) ⌝ }
-        ensures { λ r. ⌜ r ≡ stepOf self number ⌝ }
+        ensures { λ r. ⌜ r ≡ ifBegun self (stepNumbered self number) ⌝ }
     {
         let w = self.window;
         if !self.begun_if(true) {
@@ -188,10 +266,10 @@ impl Session {
         }
     }
 
-    // Any other step frame: done is a resend.
+    // Any other step frame of the round: done is a resend.
     fn other_step(self, number: u64) -> Exchanged
         requires { ⌜ (number ≡ self .done + 1 → self .done < cond (leb (self .n) 16) (a (self .n)) 0 → ⊥) ⌝ }
-        ensures { λ r. ⌜ r ≡ stepOf self number ⌝ }
+        ensures { λ r. ⌜ r ≡ ifBegun self (stepNumbered self number) ⌝ }
     {
         let done = self.done;
         if !self.has_begun() {
@@ -209,9 +287,9 @@ impl Session {
         self.refuse(Cause::RoundFinished)
     }
 
-    // A step frame, by its number.
-    pub fn step(self, number: u64) -> Exchanged
-        ensures { λ r. ⌜ r ≡ stepOf self number ⌝ }
+    // A step frame of the round, by its number.
+    fn step_numbered(self, number: u64) -> Exchanged
+        ensures { λ r. ⌜ r ≡ ifBegun self (stepNumbered self number) ⌝ }
     {
         if self.is_next(number) {
             return self.next_step(number);
@@ -219,19 +297,29 @@ impl Session {
         self.other_step(number)
     }
 
-    // A query frame changes nothing, and has no symbol and no level.
-    pub fn query(self) -> Exchanged
-        ensures { λ r. ⌜ r ≡ queryOf self ⌝ }
+    // A step frame of the second version or the first, with a round number, which counts in the second.
+    pub fn step(self, second: bool, round: u8, number: u64) -> Exchanged
+        ensures { λ r. ⌜ r ≡ stepOf self second round number ⌝ }
     {
+        if !self.is_version(second) {
+            return self.refuse_begun(Cause::OtherVersion);
+        }
+        if second & (round != self.round) {
+            return self.refuse_begun(Cause::OtherRound);
+        }
+        self.step_numbered(number)
+    }
+
+    // A query frame changes nothing, and has no symbol and no level.
+    pub fn query(self, second: bool) -> Exchanged
+        ensures { λ r. ⌜ r ≡ queryOf self second ⌝ }
+    {
+        if !self.is_version(second) {
+            return self.refuse_begun(Cause::OtherVersion);
+        }
         if !self.has_begun() {
             return self.refuse(Cause::NotBegun);
         }
-        Exchanged {
-            session: self,
-            reply: Reply::Accepted {
-                symbol: 0,
-                level: 0,
-            },
-        }
+        self.accept()
     }
 }

@@ -2,12 +2,17 @@
 use mathlib.Core.Path.{_≡_, ap, sym, _∙_}
 use lib.ListN.{length}
 use denote.Ref.{now}
-use Rattle.stepper.proofs.Begun.{says-begun, handle-leaves}
+use Rattle.stepper.specs.Exchange.{answerTo}
+use Rattle.stepper.proofs.Begun.{says-begun}
+use Rattle.stepper.proofs.Leaves.{handle-leaves}
 use Rattle.stepper.proofs.Handling.{no-room}
 use Rattle.stepper.proofs.Cases.{written-over}
 use borrow.Author.Needs.{needs}
 use Rattle.stepper.proofs.exchange.Statement.{statement}
 use Rattle.stepper.proofs.exchange.Tie as tie
+
+sixteen : (c : tie.Start) → length (c .args .session .window) ≡ 16
+sixteen c = search needs
 
 refuse-requires : tie.Need-refuse-requires
 refuse-requires c κs = search needs
@@ -18,14 +23,16 @@ returns c =
     ap (λ x. (x, now (s .args .answer))) (c .refuse .ensures)
     ∙ sym (no-room (s .args .session) (now (s .args .frame)) (now (s .args .answer)) (c .before .if1 .taken))
 
+is-second-requires : tie.Need-is-second-requires
+is-second-requires c κs = search needs
+
 handle-requires : tie.Need-handle-requires
 handle-requires c κs = search needs
 
 answer-to-requires : tie.Need-answer-to-requires
 answer-to-requires c κs =
-    let s = c .before .before .before .before in
-    let l : length (s .args .session .window) ≡ 16 = search needs in
-    rw (c .handle .ensures) (λ t. says-begun _ .of (handle-leaves (s .args .session) l (now (s .args .frame)) t))
+    let s = c .before .before .before .before .before in
+    rw (c .handle .ensures) (λ t. says-begun _ .of (handle-leaves (s .args .session) (sixteen s) (now (s .args .frame)) t))
 
 slice-aggregate-copy : tie.Need-slice-aggregate-copy
 slice-aggregate-copy c = search needs
@@ -41,10 +48,11 @@ returns-2 c =
     let copied = c .before .before in
     let answered = copied .before .before .before in
     let handled = answered .before in
-    let s = handled .before .before .before .before in
+    let second = handled .before in
+    let s = second .before .before .before .before in
     let l : length (answered .answer-to .result) ≡ 40 = search needs in
-    written-over (s .args .session) (now (s .args .frame)) (now (s .args .answer)) _ _ _ (handled .before .if1 .left)
-    (handled .handle .ensures) (answered .answer-to .ensures) l (copied .copy .ensures .1)
+    written-over (s .args .session) (now (s .args .frame)) (now (s .args .answer)) _ _ _ (second .before .if1 .left)
+    (handled .handle .ensures) (answered .answer-to .ensures ∙ ap (λ v. answerTo v (handled .handle .result)) (second .is-second .ensures)) l (copied .copy .ensures .1)
 
 pub exchange-spec : {M : Type 1} → statement M
 exchange-spec =
@@ -52,6 +60,7 @@ exchange-spec =
     (tie.spec
     refuse-requires
     returns
+    is-second-requires
     handle-requires
     answer-to-requires
     slice-aggregate-copy

@@ -19,12 +19,17 @@ returns c =
     let a = r .before .before .args in
     c .refuse .ensures ∙ refused-file (a .session) (a .file .now) (r .read-table .result) (r .read-table .ensures) (not-true _ (c .before .if1 .taken))
 
+accept-requires : tie.Need-accept-requires
+accept-requires c κs = search needs
+
 returns-2 : tie.Need-returns-2
 unfolding withTable
 returns-2 c =
-    let r = c .before .before .before in
+    let else = c .before in
+    let r = else .before .before .before in
     let a = r .before .before .args in
-    table-loaded (a .session) (a .file .now) (r .read-table .result) (r .read-table .ensures) (not-false _ (c .before .if1 .left))
+    c .accept .ensures
+    ∙ table-loaded (a .session) (a .file .now) (r .read-table .result) (r .read-table .ensures) (not-false _ (else .before .if1 .left))
 
 pub load-levels-spec : {M : Type 1} → statement M
-load-levels-spec = tie.close (tie.spec read-table-requires refuse-requires returns returns-2)
+load-levels-spec = tie.close (tie.spec read-table-requires refuse-requires returns accept-requires returns-2)

@@ -1,44 +1,39 @@
--- `is_question` meets its contract: `same` says of the first four bytes what `sameBytes` tests. Assumes nothing.
-use mathlib.Core.Path.{_≡_, sym}
-use native.Mathlib.Omega.{arith}
-use lib.ListN.{length, take}
-use lib.Seq.{length-take-le}
+-- `is_question` meets its contract, by that of `starts`. Assumes nothing.
+use Rattle.frames.specs.Question.{isQuestion}
 use borrow.Author.Needs.{needs}
-use Rattle.weak_orders.specs.Says.{Says}
-use Rattle.weak_orders.proofs.Tests.{same-test}
-use Rattle.frames.specs.Fields.{part}
-use Rattle.frames.specs.Question.{wko1, isQuestion}
-use Rattle.frames.proofs.ByteTests.{says-same-bytes}
 use Rattle.frames.proofs.question.is_question.Statement.{statement}
 use Rattle.frames.proofs.question.is_question.Tie as tie
 
-array-share-prefix-f : tie.Need-array-share-prefix-f
-array-share-prefix-f c = search needs
+slice-aggregate-starts : tie.Need-slice-aggregate-starts
+slice-aggregate-starts c = search needs
 
-slice-aggregate-same : tie.Need-slice-aggregate-same
-slice-aggregate-same c =
-    let l : length (c .before .args .t1) ≡ 40 = search needs in
-    sym (length-take-le 4 (c .before .args .t1) (omega arith))
+slice-aggregate-starts-2 : tie.Need-slice-aggregate-starts-2
+slice-aggregate-starts-2 c = search needs
 
-slice-aggregate-same-2 : tie.Need-slice-aggregate-same-2
-slice-aggregate-same-2 c = search needs
+starts-requires : tie.Need-starts-requires
+starts-requires c κs = search needs
 
-same-requires : tie.Need-same-requires
-same-requires c κs = search needs
+slice-aggregate-starts-3 : tie.Need-slice-aggregate-starts-3
+slice-aggregate-starts-3 c = search needs
+
+slice-aggregate-starts-4 : tie.Need-slice-aggregate-starts-4
+slice-aggregate-starts-4 c = search needs
+
+starts-requires-2 : tie.Need-starts-requires-2
+starts-requires-2 c κs = search needs
 
 returns : tie.Need-returns
-unfolding isQuestion part
-returns c =
-    let f = c .before .before .before .args .t1 in
-    let said : Says (c .same .result) (take 4 f ≡ wko1) = record { to = c .same .ensures .0; of = c .same .ensures .1 } in
-    same-test said (says-same-bytes (take 4 f) wko1)
+unfolding isQuestion
+returns c = rw (c .before .before .before .starts .ensures, c .starts2 .ensures)
 
 pub is-question-spec : {M : Type 1} → statement M
 is-question-spec =
     tie.close
     (tie.spec
-    array-share-prefix-f
-    slice-aggregate-same
-    slice-aggregate-same-2
-    same-requires
+    slice-aggregate-starts
+    slice-aggregate-starts-2
+    starts-requires
+    slice-aggregate-starts-3
+    slice-aggregate-starts-4
+    starts-requires-2
     returns)

@@ -10,12 +10,18 @@ use borrow.Author.Needs.{needs}
 use Rattle.stepper.proofs.handler.answer_to.Statement.{statement}
 use Rattle.stepper.proofs.handler.answer_to.Tie as tie
 
+sixteen : (c : tie.Start) → length (c .args .x .session .window) ≡ 16
+sixteen c = search needs
+
+round-shown-requires : tie.Need-round-shown-requires
+round-shown-requires c κs = search needs
+
 different-requires : tie.Need-different-requires
 different-requires c κs = search needs
 
 cast-different : tie.Need-cast-different
 cast-different c =
-    let s = c .before .before .before .args .x .session in
+    let s = c .before .before .before .before .args .x .session in
     let le : c .different .result ≤ 31 = rw (c .different .ensures) (height-le (take (s .n) (s .window)) 31) in
     record { fits = omega arith }
 
@@ -25,13 +31,13 @@ answer-bytes-requires c κs = search needs
 returns : tie.Need-returns
 unfolding answerTo
 returns c =
-    let start = c .before .before .before .before in
+    let shown = c .before .before in
+    let start = shown .before .before .before in
     let x = start .args .x in
-    let l : length (x .session .window) ≡ 16 = search needs in
     let many = c .before .different .ensures in
-    c .answer-bytes .ensures ∙ same-answer (x .reply) (x .session .done) _ _ _ _
-    (λ t. let (bits, window) = answer-parts (x .session) l (start .pre t) in (many ∙ bits, window))
+    c .answer-bytes .ensures ∙ rw (shown .round-shown .ensures) (same-answer (start .args .second) _ (x .reply) (x .session .done) _ _ _ _
+    (λ t. let (bits, window) = answer-parts (x .session) (sixteen start) (start .pre t) in (many ∙ bits, window)))
 
 pub answer-to-spec : {M : Type 1} → statement M
 answer-to-spec =
-    tie.close (tie.spec different-requires cast-different answer-bytes-requires returns)
+    tie.close (tie.spec round-shown-requires different-requires cast-different answer-bytes-requires returns)

@@ -3,8 +3,9 @@ use mathlib.Core.Bool.{true, false}
 use mathlib.Core.Path.{_≡_, ap, sym, _∙_}
 use denote.Ref.{now}
 use borrow.Author.Tests.{eq-eqb, ne-eqb, not-true, not-false}
-use Rattle.frames.specs.Question.{isQuestion}
-use Rattle.stepper.specs.Exchange.{handle}
+use Rattle.frames.specs.Question.{isQuestion, kindIn}
+use Rattle.stepper.specs.Exchange.{beginFrame, stepFrame, queryFrame, handle}
+use Rattle.stepper.proofs.Cases.{handled-begin, handled-step, handled-query}
 use borrow.Author.Needs.{needs}
 use Rattle.stepper.proofs.handler.handle.Statement.{statement}
 use Rattle.stepper.proofs.handler.handle.Tie as tie
@@ -53,26 +54,33 @@ query-frame-requires c κs = search needs
 refuse-requires-3 : tie.Need-refuse-requires-3
 refuse-requires-3 c κs = search needs
 
+-- a frame of some kind, as it came
+abbrev start : tie.Else2 → tie.Start
+start c = c .before .before .before .before .before
+
 returns-3 : tie.Need-returns-3
-unfolding handle
 returns-3 c =
     let two = c .before .before in
     let load = two .before .before in
-    rw (c .begin-frame .ensures, eq-eqb _ 40 (load .before .if1 .left), question two, ← load .load .ensures, c .before .match .keys1)
+    let a = start two .args in
+    c .begin-frame .ensures ∙ ap (beginFrame (a .session)) (load .load .ensures)
+    ∙ handled-begin (a .session) (now (a .frame)) (load .before .if1 .left) (question two) (ap kindIn (sym (load .load .ensures)) ∙ c .before .match .keys1)
 
 returns-4 : tie.Need-returns-4
-unfolding handle
 returns-4 c =
     let two = c .before .before in
     let load = two .before .before in
-    rw (c .step-frame .ensures, eq-eqb _ 40 (load .before .if1 .left), question two, ← load .load .ensures, c .before .match .keys2)
+    let a = start two .args in
+    c .step-frame .ensures ∙ ap (stepFrame (a .session)) (load .load .ensures)
+    ∙ handled-step (a .session) (now (a .frame)) (load .before .if1 .left) (question two) (ap kindIn (sym (load .load .ensures)) ∙ c .before .match .keys2)
 
 returns-5 : tie.Need-returns-5
-unfolding handle
 returns-5 c =
     let two = c .before .before in
     let load = two .before .before in
-    rw (c .query-frame .ensures, eq-eqb _ 40 (load .before .if1 .left), question two, ← load .load .ensures, c .before .match .keys3)
+    let a = start two .args in
+    c .query-frame .ensures ∙ ap (queryFrame (a .session)) (load .load .ensures)
+    ∙ handled-query (a .session) (now (a .frame)) (load .before .if1 .left) (question two) (ap kindIn (sym (load .load .ensures)) ∙ c .before .match .keys3)
 
 returns-6 : tie.Need-returns-6
 unfolding handle

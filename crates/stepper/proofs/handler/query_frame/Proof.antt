@@ -14,13 +14,29 @@ returns : tie.Need-returns
 unfolding queryFrame
 returns c = rw (c .refuse .ensures, ← c .before .before .reserved-query .ensures, c .before .if1 .taken)
 
+slice-aggregate-is-second : tie.Need-slice-aggregate-is-second
+slice-aggregate-is-second c = search needs
+
+is-second-requires : tie.Need-is-second-requires
+is-second-requires c κs = search needs
+
 query-requires : tie.Need-query-requires
 query-requires c κs = search needs
 
 returns-2 : tie.Need-returns-2
 unfolding queryFrame
-returns-2 c = rw (c .query .ensures, ← c .before .before .reserved-query .ensures, c .before .if1 .left)
+returns-2 c =
+    let r = c .before .before .before in
+    rw (c .query .ensures, c .before .is-second .ensures, ← r .before .reserved-query .ensures, r .if1 .left)
 
 pub query-frame-spec : {M : Type 1} → statement M
 query-frame-spec =
-    tie.close (tie.spec reserved-query-requires refuse-requires returns query-requires returns-2)
+    tie.close
+    (tie.spec
+    reserved-query-requires
+    refuse-requires
+    returns
+    slice-aggregate-is-second
+    is-second-requires
+    query-requires
+    returns-2)

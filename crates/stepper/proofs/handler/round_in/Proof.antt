@@ -13,18 +13,27 @@ setting-in-requires c κs = search needs
 window-in-requires : tie.Need-window-in-requires
 window-in-requires c κs = search needs
 
-array-read-t11 : tie.Need-array-read-t11
-array-read-t11 c = search needs
+version-in-requires : tie.Need-version-in-requires
+version-in-requires c κs = search needs
 
-cast-t12 : tie.Need-cast-t12
-cast-t12 c = search needs
+array-read-t12 : tie.Need-array-read-t12
+array-read-t12 c = search needs
 
 array-read-t15 : tie.Need-array-read-t15
 array-read-t15 c = search needs
 
+cast-t16 : tie.Need-cast-t16
+cast-t16 c = search needs
+
+array-read-t19 : tie.Need-array-read-t19
+array-read-t19 c = search needs
+
 returns : tie.Need-returns
 unfolding roundIn
-returns c = rw (c .before .setting-in .ensures, c .before .before .table-for .ensures, c .window-in .ensures)
+returns c =
+    let window = c .before in
+    let setting = window .before in
+    rw (c .version-in .ensures, window .window-in .ensures, setting .setting-in .ensures, setting .before .table-for .ensures)
 
 pub round-in-spec : {M : Type 1} → statement M
 round-in-spec =
@@ -33,7 +42,9 @@ round-in-spec =
     table-for-requires
     setting-in-requires
     window-in-requires
-    array-read-t11
-    cast-t12
+    version-in-requires
+    array-read-t12
     array-read-t15
+    cast-t16
+    array-read-t19
     returns)

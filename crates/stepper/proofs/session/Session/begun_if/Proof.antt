@@ -20,17 +20,21 @@ enum-told c = search needs
 weak-order-count-requires : tie.Need-weak-order-count-requires
 weak-order-count-requires c κs = search needs
 
+is-numbered-requires : tie.Need-is-numbered-requires
+is-numbered-requires c κs = search needs
+
 enum-told-2 : tie.Need-enum-told-2
 enum-told-2 c = search needs
 
 returns-2 : tie.Need-returns-2
 unfolding accepted
 returns-2 c =
-    let told = c .before in
+    let counted = c .before in
+    let told = counted .before in
     let judged = told .before .before in
     let a = judged .before .before .args in
-    begun-accepted (a .self) (a .formed) _ (judged .before .if1 .left) (judged .reply-if .ensures) _
-    (c .weak-order-count .ensures) (rw (told .enum-told .given .1))
+    rw (c .is-numbered .ensures) (begun-accepted (a .self) (a .formed) _ (judged .before .if1 .left) (judged .reply-if .ensures) _
+    (counted .weak-order-count .ensures) (rw (told .enum-told .given .1)))
 
 returns-3 : tie.Need-returns-3
 unfolding accepted
@@ -47,6 +51,7 @@ begun-if-spec =
     reply-if-requires
     enum-told
     weak-order-count-requires
+    is-numbered-requires
     enum-told-2
     returns-2
     returns-3)

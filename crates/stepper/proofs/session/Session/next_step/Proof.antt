@@ -9,7 +9,7 @@ use Rattle.ranking.specs.Counts.{a}
 use Rattle.successors.specs.Rules.{ruleOf}
 use Rattle.stepper.specs.Exchange.{hasBegun, onward, stepped}
 use Rattle.stepper.proofs.Begun.{says-begun}
-use Rattle.stepper.proofs.Cases.{looked-up, not-begun, steps, not-begun-if, begun-symbol, begun-no-symbol}
+use Rattle.stepper.proofs.Cases.{looked-up, not-begun, if-begun, steps, not-begun-if, begun-symbol, begun-no-symbol}
 use borrow.Author.Needs.{needs}
 use Rattle.stepper.proofs.session.Session.next_step.Statement.{statement}
 use Rattle.stepper.proofs.session.Session.next_step.Tie as tie
@@ -38,7 +38,7 @@ returns : tie.Need-returns
 returns c =
     let s = c .before .before .before .before .args in
     let b = c .before .before .begun-if in
-    c .refuse .ensures ∙ not-begun (s .self) (s .number) (not-begun-if (s .self) (sym (b .ensures) ∙ not-true _ (c .before .if1 .taken)))
+    c .refuse .ensures ∙ not-begun (s .self) _ (not-begun-if (s .self) (sym (b .ensures) ∙ not-true _ (c .before .if1 .taken)))
 
 next-symbol-requires : tie.Need-next-symbol-requires
 next-symbol-requires c κs = search needs
@@ -70,7 +70,7 @@ returns-2 c =
     let end = looked-up (x .n) _ (says-begun x .to begun .round .high) refl in
     let (next, more) = s .pre in
     c .stepped .ensures ∙ ap stepped (c .before .onward .ensures)
-    ∙ steps x (s .args .number) begun (λ e. omega arith) (omega arith) (λ e. omega arith)
+    ∙ if-begun x _ begun (steps x (s .args .number) (λ e. omega arith) (omega arith) (λ e. omega arith))
 
 returns-3 : tie.Need-returns-3
 returns-3 c =
@@ -78,7 +78,7 @@ returns-3 c =
     let x = t .before .before in
     let s = x .before .before .before .before in
     c .refuse2 .ensures
-    ∙ not-begun (s .args .self) (s .args .number) (begun-no-symbol (s .args .self) (sixteen s) (sym (x .next-symbol .ensures) ∙ t .enum-told .given .1))
+    ∙ not-begun (s .args .self) _ (begun-no-symbol (s .args .self) (sixteen s) (sym (x .next-symbol .ensures) ∙ t .enum-told .given .1))
 
 pub next-step-spec : {M : Type 1} → statement M
 next-step-spec =

@@ -9,7 +9,7 @@ use Rattle.ranking.specs.Counts.{a}
 use Rattle.stepper.specs.Exchange.{hasBegun}
 use Rattle.weak_orders.proofs.FormTests.{says-length}
 use Rattle.stepper.proofs.Begun.{says-begun}
-use Rattle.stepper.proofs.Cases.{looked-up, not-begun, zero-number, resent, misnumbered, finished}
+use Rattle.stepper.proofs.Cases.{looked-up, not-begun, if-begun, zero-number, resent, misnumbered, finished}
 use borrow.Author.Needs.{needs}
 use Rattle.stepper.proofs.session.Session.other_step.Statement.{statement}
 use Rattle.stepper.proofs.session.Session.other_step.Tie as tie
@@ -34,7 +34,7 @@ returns c =
     let tested = c .before .before in
     let s = tested .before in
     c .refuse .ensures
-    ∙ not-begun (s .args .self) (s .args .number) (sym (tested .has-begun .ensures) ∙ not-true _ (c .before .if1 .taken))
+    ∙ not-begun (s .args .self) _ (sym (tested .has-begun .ensures) ∙ not-true _ (c .before .if1 .taken))
 
 refuse-requires-2 : tie.Need-refuse-requires-2
 refuse-requires-2 c κs = search needs
@@ -43,7 +43,7 @@ returns-2 : tie.Need-returns-2
 returns-2 c =
     let one = c .before .before in
     let s = one .before .before in
-    c .refuse2 .ensures ∙ zero-number (s .args .self) (s .args .number) (begun one) (c .before .if2 .taken)
+    c .refuse2 .ensures ∙ if-begun (s .args .self) _ (begun one) (zero-number (s .args .self) (s .args .number) (c .before .if2 .taken))
 
 stepped-requires : tie.Need-stepped-requires
 stepped-requires c κs = length-ok (c .before .before)
@@ -52,7 +52,8 @@ returns-3 : tie.Need-returns-3
 returns-3 c =
     let two = c .before .before in
     let s = two .before .before .before in
-    c .stepped .ensures ∙ resent (s .args .self) (s .args .number) (begun (two .before)) (two .if2 .left) (c .before .if3 .taken)
+    c .stepped .ensures
+    ∙ if-begun (s .args .self) _ (begun (two .before)) (resent (s .args .self) (s .args .number) (two .if2 .left) (c .before .if3 .taken))
 
 sub-if4 : tie.Need-sub-if4
 sub-if4 c = search needs
@@ -66,7 +67,8 @@ returns-4 c =
     let two = three .before in
     let s = two .before .before .before in
     c .refuse3 .ensures
-    ∙ misnumbered (s .args .self) (s .args .number) (begun (two .before)) (two .if2 .left) (three .if3 .left) (c .before .if4 .taken)
+    ∙ if-begun (s .args .self) _ (begun (two .before))
+    (misnumbered (s .args .self) (s .args .number) (two .if2 .left) (three .if3 .left) (c .before .if4 .taken))
 
 refuse-requires-4 : tie.Need-refuse-requires-4
 refuse-requires-4 c κs = search needs
@@ -81,7 +83,7 @@ returns-5 c =
     let known = says-begun x .to b in
     let end = looked-up (x .n) _ (known .round .high) refl in
     let last : ¬ (x .done < a (x .n)) = λ lt. s .pre (omega (arith, two .if2 .left, four .if4 .left)) (omega arith) in
-    c .refuse4 .ensures ∙ finished x (s .args .number) b (two .if2 .left) (four .if4 .left) (omega (arith, known .within, last))
+    c .refuse4 .ensures ∙ if-begun x _ b (finished x (s .args .number) (two .if2 .left) (four .if4 .left) (omega (arith, known .within, last)))
 
 pub other-step-spec : {M : Type 1} → statement M
 other-step-spec =
