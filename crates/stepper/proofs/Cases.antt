@@ -1,5 +1,5 @@
 -- The cases of a step frame and of an exchange, each under the tests that lead to it. Assumes nothing.
-use mathlib.Core.Bool.{Bool, true, false, false≢true, cond, _&&_}
+use mathlib.Core.Bool.{Bool, true, false, false≢true, cond, not, _&&_}
 use mathlib.Core.List.{List, _++_}
 use mathlib.Core.Option.{Option, none, some}
 use mathlib.Core.Path.{_≡_, refl, sym, ap, _∙_}
@@ -22,11 +22,11 @@ use Rattle.successors.specs.declared.Next.the-variants.{Symbol, Refused as NoSy
 use Rattle.successors.proofs.RuleNumbers.{form-bound}
 use Rattle.successors.proofs.Steppable.{Steppable, accepted as yes-judged, steppable-of, symbol-judged, no-symbol}
 use Rattle.refusals.specs.declared.Cause.{Cause}
-use Rattle.refusals.specs.declared.Cause.the-variants.{FrameKind, NotBegun, StepNumber, RoundFinished, LevelFile, RoundInForce}
+use Rattle.refusals.specs.declared.Cause.the-variants.{FrameLength, FrameHeader, FrameKind, ReservedByte, NotBegun, StepNumber, RoundFinished, LevelFile, RoundInForce}
 use Rattle.frames.specs.declared.answer.Reply.{Reply}
 use Rattle.frames.specs.declared.answer.Reply.the-variants.{Accepted, Refused}
 use Rattle.frames.specs.Fields.{byte}
-use Rattle.frames.specs.Question.{isQuestion, isSecond, kindIn, letterB, letterS, letterQ}
+use Rattle.frames.specs.Question.{isQuestion, isSecond, kindIn, letterB, letterS, letterQ, roundNumberIn, numberIn, reservedS}
 use Rattle.frames.specs.Answer.{accepted, answerBytes, newest}
 use Rattle.frames.proofs.Padding.{padded-take}
 use Rattle.level_files.specs.declared.TableRead.{TableRead}
@@ -35,7 +35,7 @@ use Rattle.level_files.specs.LevelFile.{readTable}
 use Rattle.stepper.specs.declared.session.Exchanged.{Exchanged}
 use Rattle.stepper.specs.declared.session.Session.{Session}
 use Rattle.stepper.specs.Exchange.{replyIf, beginReply, isNumbered, begunIf, hasBegun, refuse, accept, roundIn, takesNumber, beginAnew}
-use Rattle.stepper.specs.Exchange.{beginFrame, onward, stepped, ifBegun, stepNumbered, stepFrame, queryFrame, handle, answerTo, exchange, withTable, loaded, loadLevels}
+use Rattle.stepper.specs.Exchange.{beginFrame, onward, stepped, ifBegun, stepNumbered, stepOf, stepFrame, queryFrame, handle, answerTo, exchange, withTable, loaded, loadLevels}
 use Rattle.stepper.proofs.Begun.{says-begun}
 
 -- a(n), as it is looked up, where n is a window's length
@@ -161,23 +161,44 @@ module _ (s : Session) (k : ℕ) where
         ne-eqb (s .done) (a (s .n)) x,
       )
 
--- A frame of forty bytes with a header, by its kind.
-module _ (s : Session) (f : List ℕ) (long : length f ≡ 40) (header : isQuestion f ≡ true) where
-  by-kind : handle s f
-      ≡ cond (eqb (kindIn f) letterB) (beginFrame s f) (
-      cond (eqb (kindIn f) letterS) (stepFrame s f) (
-      cond (eqb (kindIn f) letterQ) (queryFrame s f) (refuse s FrameKind)))
+-- Frames from test 2 on, each under the tests that lead to what it comes to.
+module _ (s : Session) (f : List ℕ) where
+  pub handled-length : (length f ≡ 40 → ⊥) → refuse s FrameLength ≡ handle s f
   unfolding handle
-  by-kind = rw (eq-eqb (length f) 40 long, header)
+  handled-length x = rw (ne-eqb (length f) 40 x)
 
-  pub handled-begin : kindIn f ≡ letterB → beginFrame s f ≡ handle s f
-  handled-begin k = sym (by-kind ∙ rw k)
+  module _ (long : length f ≡ 40) where
+    pub handled-header : isQuestion f ≡ false → refuse s FrameHeader ≡ handle s f
+    unfolding handle
+    handled-header e = rw (eq-eqb (length f) 40 long, e)
 
-  pub handled-step : kindIn f ≡ letterS → stepFrame s f ≡ handle s f
-  handled-step k = sym (by-kind ∙ rw k)
+    module _ (header : isQuestion f ≡ true) where
+      by-kind : handle s f
+          ≡ cond (eqb (kindIn f) letterB) (beginFrame s f) (
+          cond (eqb (kindIn f) letterS) (stepFrame s f) (
+          cond (eqb (kindIn f) letterQ) (queryFrame s f) (refuse s FrameKind)))
+      unfolding handle
+      by-kind = rw (eq-eqb (length f) 40 long, header)
 
-  pub handled-query : kindIn f ≡ letterQ → queryFrame s f ≡ handle s f
-  handled-query k = sym (by-kind ∙ rw k)
+      pub handled-begin : kindIn f ≡ letterB → beginFrame s f ≡ handle s f
+      handled-begin k = sym (by-kind ∙ rw k)
+
+      pub handled-step : kindIn f ≡ letterS → stepFrame s f ≡ handle s f
+      handled-step k = sym (by-kind ∙ rw k)
+
+      pub handled-query : kindIn f ≡ letterQ → queryFrame s f ≡ handle s f
+      handled-query k = sym (by-kind ∙ rw k)
+
+      pub handled-kind : (kindIn f ≡ letterB → ⊥) → (kindIn f ≡ letterS → ⊥) → (kindIn f ≡ letterQ → ⊥) → refuse s FrameKind ≡ handle s f
+      handled-kind b s q = sym (by-kind ∙ rw (ne-eqb (kindIn f) letterB b, ne-eqb (kindIn f) letterS s, ne-eqb (kindIn f) letterQ q))
+
+  pub step-reserved : reservedS f ≡ false → refuse s ReservedByte ≡ stepFrame s f
+  unfolding stepFrame
+  step-reserved e = ap (λ t. cond (not t) (refuse s ReservedByte) (stepOf s (isSecond f) (roundNumberIn f) (numberIn f))) (sym e)
+
+  pub step-read : reservedS f ≡ true → stepOf s (isSecond f) (roundNumberIn f) (numberIn f) ≡ stepFrame s f
+  unfolding stepFrame
+  step-read e = ap (λ t. cond (not t) (refuse s ReservedByte) (stepOf s (isSecond f) (roundNumberIn f) (numberIn f))) (sym e)
 
 -- The newest of the first n symbols.
 pub newest-at : (w : List ℕ) (n : ℕ) → 1 ≤ n → n ≤ length w → byte w (n - 1) ≡ newest (take n w)

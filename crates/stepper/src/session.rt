@@ -9,7 +9,7 @@ ghost use Rattle.weak_orders.specs.Window.{isLength};
 ghost use Rattle.ranking.specs.Counts.{a};
 ghost use Rattle.successors.specs.Rules.{ruleOf};
 ghost use Rattle.frames.specs.Fields.{zeros};
-ghost use Rattle.stepper.specs.Exchange.{replyIf, beginReply, inSecond, isNumbered, begunIf, hasBegun, fresh, refuse, accept, inForce};
+ghost use Rattle.stepper.specs.Exchange.{replyIf, beginReply, inSecond, begunIf, hasBegun, fresh, refuse, accept, inForce};
 ghost use Rattle.stepper.specs.Exchange.{isAgain, takesNumber, onward, stepped, sameVersion, ifBegun, stepNumbered, stepOf, queryOf};
 use frames::answer::Reply;
 use frames::question;
@@ -122,13 +122,6 @@ impl Session {
         }
     }
 
-    // A WKO2 round is not numbered 0.
-    fn is_numbered(self) -> bool
-        ensures { λ r. ⌜ r ≡ isNumbered self ⌝ }
-    {
-        !((self.version == 2) & (self.round == 0))
-    }
-
     // Document 01's "counts as begun", where `formed` says whether the window is in the rule's form.
     fn begun_if(self, formed: bool) -> bool
         ensures { λ r. ⌜ r ≡ begunIf self formed ⌝ }
@@ -136,6 +129,7 @@ impl Session {
         let n = self.n;
         let done = self.done;
         let begun = self.begun;
+        let numbered = !((self.version == 2) & (self.round == 0));
         if begun != 1 {
             return false;
         }
@@ -144,7 +138,7 @@ impl Session {
             Reply::Accepted {
                 symbol: _,
                 level: _,
-            } => (done <= ranking::weak_order_count(n)) & self.is_numbered(),
+            } => (done <= ranking::weak_order_count(n)) & numbered,
             Reply::Refused(_) => false,
         }
     }
@@ -287,16 +281,6 @@ impl Session {
         self.refuse(Cause::RoundFinished)
     }
 
-    // A step frame of the round, by its number.
-    fn step_numbered(self, number: u64) -> Exchanged
-        ensures { λ r. ⌜ r ≡ ifBegun self (stepNumbered self number) ⌝ }
-    {
-        if self.is_next(number) {
-            return self.next_step(number);
-        }
-        self.other_step(number)
-    }
-
     // A step frame of the second version or the first, with a round number, which counts in the second.
     pub fn step(self, second: bool, round: u8, number: u64) -> Exchanged
         ensures { λ r. ⌜ r ≡ stepOf self second round number ⌝ }
@@ -307,18 +291,21 @@ impl Session {
         if second & (round != self.round) {
             return self.refuse_begun(Cause::OtherRound);
         }
-        self.step_numbered(number)
+        if self.is_next(number) {
+            return self.next_step(number);
+        }
+        self.other_step(number)
     }
 
     // A query frame changes nothing, and has no symbol and no level.
     pub fn query(self, second: bool) -> Exchanged
         ensures { λ r. ⌜ r ≡ queryOf self second ⌝ }
     {
-        if !self.is_version(second) {
-            return self.refuse_begun(Cause::OtherVersion);
-        }
         if !self.has_begun() {
             return self.refuse(Cause::NotBegun);
+        }
+        if !self.is_version(second) {
+            return self.refuse(Cause::OtherVersion);
         }
         self.accept()
     }

@@ -1,11 +1,11 @@
 -- `handle` meets its contract: its tests are those of the definition, in order. Assumes nothing.
-use mathlib.Core.Bool.{true, false}
+use mathlib.Core.Bool.{true}
 use mathlib.Core.Path.{_≡_, ap, sym, _∙_}
 use denote.Ref.{now}
-use borrow.Author.Tests.{eq-eqb, ne-eqb, not-true, not-false}
+use borrow.Author.Tests.{not-true, not-false}
 use Rattle.frames.specs.Question.{isQuestion, kindIn}
-use Rattle.stepper.specs.Exchange.{beginFrame, stepFrame, queryFrame, handle}
-use Rattle.stepper.proofs.Cases.{handled-begin, handled-step, handled-query}
+use Rattle.stepper.specs.Exchange.{beginFrame, stepFrame, queryFrame}
+use Rattle.stepper.proofs.Cases.{handled-length, handled-header, handled-begin, handled-step, handled-query, handled-kind}
 use borrow.Author.Needs.{needs}
 use Rattle.stepper.proofs.handler.handle.Statement.{statement}
 use Rattle.stepper.proofs.handler.handle.Tie as tie
@@ -18,8 +18,7 @@ refuse-requires : tie.Need-refuse-requires
 refuse-requires c κs = search needs
 
 returns : tie.Need-returns
-unfolding handle
-returns c = rw (c .refuse .ensures, ne-eqb _ 40 (c .before .if1 .taken))
+returns c = c .refuse .ensures ∙ handled-length _ _ (c .before .if1 .taken)
 
 load-requires : tie.Need-load-requires
 load-requires c κs = search needs
@@ -31,13 +30,12 @@ refuse-requires-2 : tie.Need-refuse-requires-2
 refuse-requires-2 c κs = search needs
 
 returns-2 : tie.Need-returns-2
-unfolding handle
 returns-2 c =
     let tested = c .before .before in
-    let f = tested .before .before .before .before .args .frame in
-    let q : isQuestion (now f) ≡ false =
-    ap isQuestion (sym (tested .before .load .ensures)) ∙ sym (tested .is-question .ensures) ∙ not-true _ (c .before .if2 .taken) in
-    rw (c .refuse2 .ensures, eq-eqb _ 40 (tested .before .before .if1 .left), q)
+    let load = tested .before in
+    let a = load .before .before .before .args in
+    let q = ap isQuestion (sym (load .load .ensures)) ∙ sym (tested .is-question .ensures) ∙ not-true _ (c .before .if2 .taken) in
+    c .refuse2 .ensures ∙ handled-header (a .session) (now (a .frame)) (load .before .if1 .left) q
 
 array-read-kind : tie.Need-array-read-kind
 array-read-kind c = search needs
@@ -83,20 +81,15 @@ returns-5 c =
     ∙ handled-query (a .session) (now (a .frame)) (load .before .if1 .left) (question two) (ap kindIn (sym (load .load .ensures)) ∙ c .before .match .keys3)
 
 returns-6 : tie.Need-returns-6
-unfolding handle
 returns-6 c =
     let two = c .before .before in
     let load = two .before .before in
+    let a = start two .args in
     let rest = c .before .match .rest in
-    rw (
-      c .refuse3 .ensures,
-      eq-eqb _ 40 (load .before .if1 .left),
-      question two,
-      ← load .load .ensures,
-      ne-eqb _ 66 (rest .0 .0 .1),
-      ne-eqb _ 83 (rest .0 .1),
-      ne-eqb _ 81 (rest .1),
-    )
+    let same = ap kindIn (load .load .ensures) in
+    c .refuse3 .ensures
+    ∙ handled-kind (a .session) (now (a .frame)) (load .before .if1 .left) (question two)
+    (λ e. rest .0 .0 .1 (same ∙ e)) (λ e. rest .0 .1 (same ∙ e)) (λ e. rest .1 (same ∙ e))
 
 pub handle-spec : {M : Type 1} → statement M
 handle-spec =

@@ -1,5 +1,9 @@
 -- `step_frame` meets its contract. Assumes nothing.
-use Rattle.stepper.specs.Exchange.{stepFrame}
+use mathlib.Core.Path.{sym, ap₂, _∙_}
+use borrow.Author.Tests.{not-true, not-false}
+use Rattle.frames.specs.Question.{roundNumberIn}
+use Rattle.stepper.specs.Exchange.{stepOf}
+use Rattle.stepper.proofs.Cases.{step-reserved, step-read}
 use borrow.Author.Needs.{needs}
 use Rattle.stepper.proofs.handler.step_frame.Statement.{statement}
 use Rattle.stepper.proofs.handler.step_frame.Tie as tie
@@ -11,8 +15,7 @@ refuse-requires : tie.Need-refuse-requires
 refuse-requires c κs = search needs
 
 returns : tie.Need-returns
-unfolding stepFrame
-returns c = rw (c .refuse .ensures, ← c .before .before .reserved-step .ensures, c .before .if1 .taken)
+returns c = c .refuse .ensures ∙ step-reserved _ _ (sym (c .before .before .reserved-step .ensures) ∙ not-true _ (c .before .if1 .taken))
 
 slice-aggregate-is-second : tie.Need-slice-aggregate-is-second
 slice-aggregate-is-second c = search needs
@@ -30,12 +33,14 @@ step-requires : tie.Need-step-requires
 step-requires c κs = search needs
 
 returns-2 : tie.Need-returns-2
-unfolding stepFrame
 returns-2 c =
     let number = c .before in
     let second = number .before in
     let r = second .before .before in
-    rw (c .step .ensures, number .number-in .ensures, second .is-second .ensures, ← r .before .reserved-step .ensures, r .if1 .left)
+    let a = r .before .before .args in
+    c .step .ensures
+    ∙ ap₂ (λ v k. stepOf (a .session) v (roundNumberIn (a .t2)) k) (second .is-second .ensures) (number .number-in .ensures)
+    ∙ step-read (a .session) (a .t2) (sym (r .before .reserved-step .ensures) ∙ not-false _ (r .if1 .left))
 
 pub step-frame-spec : {M : Type 1} → statement M
 step-frame-spec =

@@ -1,7 +1,7 @@
 -- `Session::begun_if`: the reply is the one that a begin frame would get. Assumes nothing.
 use borrow.Author.Tests.{ne-eqb}
 use Rattle.frames.specs.Answer.{accepted}
-use Rattle.stepper.specs.Exchange.{begunIf}
+use Rattle.stepper.specs.Exchange.{inSecond, isNumbered, begunIf}
 use Rattle.stepper.proofs.Cases.{begun-accepted, begun-refused}
 use borrow.Author.Needs.{needs}
 use Rattle.stepper.proofs.session.Session.begun_if.Statement.{statement}
@@ -9,7 +9,7 @@ use Rattle.stepper.proofs.session.Session.begun_if.Tie as tie
 
 returns : tie.Need-returns
 unfolding begunIf
-returns c = rw (ne-eqb (c .before .args .self .begun) 1 (c .if1 .taken))
+returns c = rw (ne-eqb (c .before .before .before .args .self .begun) 1 (c .if1 .taken))
 
 reply-if-requires : tie.Need-reply-if-requires
 reply-if-requires c κs = search needs
@@ -20,27 +20,23 @@ enum-told c = search needs
 weak-order-count-requires : tie.Need-weak-order-count-requires
 weak-order-count-requires c κs = search needs
 
-is-numbered-requires : tie.Need-is-numbered-requires
-is-numbered-requires c κs = search needs
-
 enum-told-2 : tie.Need-enum-told-2
 enum-told-2 c = search needs
 
 returns-2 : tie.Need-returns-2
-unfolding accepted
+unfolding accepted isNumbered inSecond
 returns-2 c =
-    let counted = c .before in
-    let told = counted .before in
+    let told = c .before in
     let judged = told .before .before in
-    let a = judged .before .before .args in
-    rw (c .is-numbered .ensures) (begun-accepted (a .self) (a .formed) _ (judged .before .if1 .left) (judged .reply-if .ensures) _
-    (counted .weak-order-count .ensures) (rw (told .enum-told .given .1)))
+    let a = judged .before .before .before .before .args in
+    begun-accepted (a .self) (a .formed) _ (judged .before .if1 .left) (judged .reply-if .ensures) _
+    (c .weak-order-count .ensures) (rw (told .enum-told .given .1))
 
 returns-3 : tie.Need-returns-3
 unfolding accepted
 returns-3 c =
     let judged = c .before .before in
-    let a = judged .before .before .args in
+    let a = judged .before .before .before .before .args in
     begun-refused (a .self) (a .formed) _ (judged .before .if1 .left) (judged .reply-if .ensures) (rw (c .enum-told2 .given .1))
 
 pub begun-if-spec : {M : Type 1} → statement M
@@ -51,7 +47,6 @@ begun-if-spec =
     reply-if-requires
     enum-told
     weak-order-count-requires
-    is-numbered-requires
     enum-told-2
     returns-2
     returns-3)
