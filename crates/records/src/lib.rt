@@ -1,5 +1,5 @@
 // One session through the records of standard input: what the programs replay and replay_events do. Their sources say what a record is.
-// Rests on stepper for what a record comes to, and on input for reads. `name` is the program's, for what it says on standard error.
+// Rests on handler for what a record comes to, and on input for reads. `name` is the program's, for what it says on standard error.
 ghost use mathlib.Core.Path.{_≡_};
 ghost use Prim.Native.Nat.{_≤_, _<_};
 ghost use lib.ListN.{length, drop};
@@ -94,7 +94,7 @@ fn answer_frame(session: Session, frame: &[u8], out: &mut [u8]) -> Session
     requires { ⌜ 1 ≤ length (now out) ⌝ }
     ensures { λ r. ⌜ (r, now (out .exit)) ≡ numbered (exchange session (now (frame .entry)) (drop 1 (now (out .entry)))) ⌝ }
 {
-    let x = stepper::exchange(session, frame, &mut out[1..]);
+    let x = handler::exchange(session, frame, &mut out[1..]);
     put_number(x, out)
 }
 
@@ -102,7 +102,7 @@ fn answer_file(session: Session, file: &[u8], out: &mut [u8]) -> Session
     requires { ⌜ 1 ≤ length (now out) ⌝ }
     ensures { λ r. ⌜ (r, now (out .exit)) ≡ numbered (loadLevels session (now (file .entry)), drop 1 (now (out .entry))) ⌝ }
 {
-    let x = stepper::load_levels(session, file);
+    let x = handler::load_levels(session, file);
     put_number(x, out)
 }
 

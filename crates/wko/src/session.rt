@@ -1,4 +1,4 @@
-// The session for firmware in C: a struct by value, one call for a frame and one for a level file. Their contracts are those of stepper's calls.
+// The session for firmware in C: a struct by value, one call for a frame and one for a level file. Their contracts are those of handler's calls.
 ghost use mathlib.Core.Path.{_≡_};
 ghost use Rattle.stepper.specs.Exchange.{fresh};
 ghost use Rattle.wko.specs.SessionCalls.{exchangeCall, loadCall};
@@ -31,7 +31,7 @@ pub extern "C" fn wko_fresh() -> Session
 pub extern "C" fn wko_exchange(session: Session, frame: &[u8], answer: &mut [u8]) -> Exchanged
     ensures { λ r. ⌜ (r, now (answer .exit)) ≡ exchangeCall session (now (frame .entry)) (now (answer .entry)) ⌝ }
 {
-    let x = stepper::exchange(session, frame, answer);
+    let x = handler::exchange(session, frame, answer);
     let reply = x.reply;
     let next = x.session;
     Exchanged {
@@ -45,7 +45,7 @@ pub extern "C" fn wko_exchange(session: Session, frame: &[u8], answer: &mut [u8]
 pub extern "C" fn wko_load_levels(session: Session, file: &[u8]) -> Loaded
     ensures { λ r. ⌜ r ≡ loadCall session (now (file .entry)) ⌝ }
 {
-    let x = stepper::load_levels(session, file);
+    let x = handler::load_levels(session, file);
     let reply = x.reply;
     let holding = x.session;
     Loaded {

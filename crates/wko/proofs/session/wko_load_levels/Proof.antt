@@ -1,4 +1,4 @@
--- `wko_load_levels`: what stepper's call gives, with the reply as a number. Assumes nothing.
+-- `wko_load_levels`: what handler's call gives, with the reply as a number. Assumes nothing.
 use mathlib.Core.Path.{ap}
 use borrow.Author.Needs.{needs}
 use Rattle.wko.specs.SessionCalls.{loadedForC, loadCall}

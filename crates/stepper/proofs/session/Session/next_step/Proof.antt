@@ -5,7 +5,6 @@ use native.Mathlib.Omega.{arith}
 use lib.ListN.{length, take}
 use borrow.Author.Tests.{not-true, not-false}
 use Rattle.weak_orders.specs.Window.{isLength}
-use Rattle.ranking.specs.Counts.{a}
 use Rattle.successors.specs.Rules.{ruleOf}
 use Rattle.stepper.specs.Exchange.{hasBegun, onward, stepped}
 use Rattle.stepper.proofs.Begun.{says-begun}
