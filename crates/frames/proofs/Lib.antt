@@ -1,3 +1,4 @@
 pub mod ByteTests
 pub mod Padding
 pub mod Signed
+pub mod BeginBytes

@@ -11,6 +11,7 @@ use lib.Signed.{ltZ}
 use borrow.Author.Tests.{le-ltb, lt-ltb, ltb-true, ltb-false}
 use mir.Syntax.{w16, w32}
 use mir.Val.{SFits}
+use Rattle.weak_orders.proofs.Tests.{by-test}
 use Rattle.frames.specs.Fields.{signed16, bits16, bits32, bytes16, bytes32}
 
 -- Two's complement.
@@ -40,6 +41,19 @@ signed16-fits x l = fits (ltb x 32768) refl
     fits : (b : Bool) → ltb x 32768 ≡ b → SFits w16 (cond b (pos x) (negsuc (65535 - x)))
     fits true e = record { sfits = omega (arith, ltb-true x 32768 e) }
     fits false e = record { sfits = omega (arith, ltb-false x 32768 e) }
+
+-- sixteen bits as a signed number, and back
+pub signed-bits : (z : ℤ) → SFits w16 z → signed16 (bits16 z) ≡ z
+signed-bits (pos n) h = rw (lt-ltb n 32768 (omega (arith, h .sfits)))
+signed-bits (negsuc n) h =
+    let l : n < 32768 = omega (arith, h .sfits) in
+    let e : 65535 - (65535 - n) ≡ n = omega arith in
+    rw (le-ltb (65535 - n) 32768 (omega arith)) (ap negsuc e)
+
+pub bits-signed : (x : ℕ) → x < 65536 → bits16 (signed16 x) ≡ x
+bits-signed x h = by-test (ltb x 32768)
+    (λ e. rw e)
+    (λ e. rw e (omega arith))
 
 -- of a number of 16 bits, the low two bytes of its 32
 pub low-bytes : (z : ℤ) → SFits w16 z → take 2 (bytes32 (bits32 z)) ≡ bytes16 (bits16 z)

@@ -18,7 +18,7 @@ use denote.Signed.{SInt}
 use borrow.Author.Tests.{leb-true}
 use Rattle.weak_orders.proofs.Tests.{by-test, same-test, says-and, says-as, says-eq, says-itself, says-le}
 use Rattle.levels.specs.declared.Setting.{Setting}
-use Rattle.levels.specs.Level.{spacings, lowered, nearest, rounded, entry, onTable, levelAt, levelOf, topOk, spacingOk}
+use Rattle.levels.specs.Level.{spacings, lowered, nearest, rounded, entry, onTable, levelAt, levelOf, topOk, spacingOk, evenOk, settingOk}
 use Rattle.levels.proofs.NearestMultiple.{nearest-le}
 
 -- a difference is at most as large as its parts together
@@ -84,14 +84,24 @@ pub spacing-fits : (spacing : ℕ) → spacingOk spacing ≡ true → Fits w16 s
 spacing-fits spacing e =
     let (_, h) = says-and (says-le 25 spacing) (says-le spacing 500) .to e in record { fits = omega arith }
 
+-- a number of magnitude 0 is 0
+abs-zero : (z : ℤ) → natAbs z ≡ 0 → z ≡ pos 0
+abs-zero (pos n) e = ap pos e
+abs-zero (negsuc n) e = absurd (omega arith)
+
+-- the top of a setting that passes test 9 has room in 16 bits, on a table too
+pub setting-top-fits : (n : ℕ) (s : Setting) → settingOk n s ≡ true → SFits w16 (s .top)
+unfolding settingOk onTable evenOk
+setting-top-fits n s t = by-test (onTable s)
+    (λ e.
+    let (z, _) = says-and (says-eq (natAbs (s .top)) 0) (says-itself (eqb (s .spacing) 0)) .to e in
+    rw (abs-zero (s .top) z) (record { sfits = omega arith }))
+    (λ e. top-fits (s .top) (says-and (says-itself (topOk (s .top))) (says-itself _) .to (rw e at t) .0))
+
 -- a top is 0 just if its bits are
 pub zero-bits : (z : ℤ) → SFits w16 z → eqb (ofZ w16 z) 0 ≡ eqb (natAbs z) 0
-zero-bits z f = same-test (says-eq (ofZ w16 z) 0) (says-as (says-eq (natAbs z) 0) (λ e. ap (ofZ w16) (zero z e))
+zero-bits z f = same-test (says-eq (ofZ w16 z) 0) (says-as (says-eq (natAbs z) 0) (λ e. ap (ofZ w16) (abs-zero z e))
     (λ e. ap natAbs (sym (toZ-ofZ f) ∙ ap (toZ w16) e)))
-  where
-    zero : (z : ℤ) → natAbs z ≡ 0 → z ≡ pos 0
-    zero (pos n) e = ap pos e
-    zero (negsuc n) e = absurd (omega arith)
 
 -- An element of an array of i16 fits, at any index, since past the end `getD` gives 0: for `search`, which has it of unsigned elements only.
 -- For the field of a struct the array's relation stands at `map` of the identity.

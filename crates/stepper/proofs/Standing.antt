@@ -20,10 +20,10 @@ use Rattle.universal_cycle.specs.Round.{Tour}
 use Rattle.universal_cycle.proofs.Rounds.{universal-cycle}
 use Rattle.refusals.specs.declared.Cause.the-variants.{ShortBuffer}
 use Rattle.levels.specs.declared.Setting.{Setting}
-use Rattle.frames.specs.Fields.{part, isBytes}
-use Rattle.frames.specs.Question.{wko2, isQuestion, isSecond, kindIn, letterS, lengthIn, ruleIn, roundNumberIn, numberIn, windowIn}
+use Rattle.frames.specs.Fields.{isBytes}
+use Rattle.frames.specs.Question.{isQuestion, isSecond, kindIn, letterS, lengthIn, ruleIn, roundNumberIn, numberIn, windowIn}
 use Rattle.frames.specs.Question.{roundNumberOk, reservedS}
-use Rattle.frames.proofs.ByteTests.{says-same-bytes}
+use Rattle.frames.proofs.BeginBytes.{second-header, window-long, frame-back}
 use Rattle.frames.proofs.Padding.{unused-padded, padded-take}
 use Rattle.level_files.specs.LevelFile.{readTable}
 use Rattle.stepper.specs.declared.session.Session.{Session}
@@ -33,7 +33,7 @@ use Rattle.stepper.specs.Exchange.{loadLevels}
 use Rattle.stepper.specs.ExactlyOnce.{Arrival, passes, ofRound, stepsIn, roundOf, isNext, isRetransmission, accepts, causeAt}
 use Rattle.stepper.specs.ExactlyOnce.{startOf, windowAfter, sessionAt, levelFile, next, tableOr}
 use Rattle.stepper.proofs.Begun.{RoundOk, says-begun, numbered, reserved-parts}
-use Rattle.stepper.proofs.Coding.{window-long, frame-back, Again, says-again, setting-back, window-back, fields-back, second-back}
+use Rattle.stepper.proofs.Coding.{Again, says-again, setting-back, window-back, fields-back, second-back}
 use Rattle.stepper.proofs.Coding.{again-kind, again-reserved}
 use Rattle.stepper.proofs.Handling.{Good, begin-again, frame-tests, number-tests}
 
@@ -50,11 +50,6 @@ unnumbered g f t e r v =
     let (n, _) = says-and (says-itself (roundNumberOk f)) (says-itself _) .to r in
     let first = not-true (isSecond g) (rw e at v) in
     eq-eqb (roundNumberIn f) (roundNumberIn g) (no-number f n e ∙ sym (no-number g t first))
-
--- the letters of the second version
-second-header : (f : List ℕ) → isSecond f ≡ true → part f 0 4 ≡ wko2
-unfolding isSecond
-second-header f t = says-and (says-itself (eqb (length f) 40)) (says-same-bytes (part f 0 4) wko2) .to t .1
 
 module _ (g : List ℕ) (t : List ℤ) (G : Good g t) where
   start-order : WeakOrder (lengthIn g) (ruleIn g) (startOf g)
@@ -127,7 +122,7 @@ module _ (g : List ℕ) (t : List ℤ) (G : Good g t) where
   unfolding begunBy sessionAt
   again-at h small second =
       let (_, (z₈, z₂₀)) = reserved-parts g (G .reserved) in
-      let whole = frame-back g (G .long) t small (second-header g second) (G .kind) z₈ z₂₀ in
+      let whole = frame-back g (G .long) true t small (second-header g second) (G .kind) z₈ z₂₀ in
       says-again (sessionAt g t h 0) g .of (record {
         begun = says-begun (sessionAt g t h 0) .to (begun-at h 0 (omega arith));
         version = rw second;
