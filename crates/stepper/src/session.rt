@@ -109,7 +109,7 @@ impl Session {
         }
     }
 
-    // A frame without a symbol and a level is accepted, or a level file, and leaves this session.
+    // A frame without a symbol and a level is accepted, or a level file: the session that it leaves.
     pub fn accept(self) -> Exchanged
         ensures { λ r. ⌜ r ≡ accept self ⌝ }
     {
