@@ -1,28 +1,28 @@
 -- The claims of specs/Claims.antt. Assumes nothing.
-use mathlib.Core.Bool.{Bool}
+use mathlib.Core.Bool.{Bool, true}
 use mathlib.Core.List.{List, [], _∷_, map, Memᴰ·map, Memᴰ·of-map, Memᴰ·cast}
 use mathlib.Core.Path.{_≡_, refl, sym, ap, _∙_}
 use Prim.Native.Nat.{ℕ, suc, _<_}
 use native.Mathlib.Omega.{arith}
 use native.Mathlib.Decide.{decLt}
 use lib.Dec.{ltb, eqb}
-use lib.ListN.{length}
 use borrow.Author.Tests.{eqb-true, eq-eqb, lt-ltb, le-ltb}
-use Rattle.weak_orders.specs.Window.{occurs, different, below, heights, ranks}
+use Rattle.weak_orders.specs.Window.{count, occurs, different, below, ranks}
+use Rattle.weak_orders.proofs.Lists.{count-map, count-cong}
 use Rattle.weak_orders.proofs.Symbols.{says-occurs, occurs-in, below-strict}
 use Rattle.weak_orders.proofs.Tests.{_∈_, here, there, says-as, same-test}
 use Rattle.rotations.specs.Order.{lexLt}
 use Rattle.rotations.proofs.Orders.{lexLt-irreflexive, lexLt-asymmetric}
 use Rattle.ranking.specs.Claims.{CountsAndPlaces}
 use Rattle.ranking.specs.Counts.{L, a}
-use Rattle.ranking.specs.Dictionary.{select, heightWindows, windowAt}
+use Rattle.ranking.specs.Dictionary.{heightWindows, windowAt}
 use Rattle.ranking.specs.Numbering.{Exactly, HeightWindow, RankWindow}
 use Rattle.ranking.proofs.Completions.{heightWindows-different, heightWindows-length}
-use Rattle.ranking.proofs.Listing.{in-select, of-select, length-select}
-use Rattle.ranking.proofs.Numberings.{Matching, numbering-through}
-use Rattle.ranking.proofs.Places.{in-heightWindows, of-heightWindows, heights-numbered, ranks-match, ranks-numbered}
+use Rattle.ranking.proofs.Numberings.{exactly-as}
+use Rattle.ranking.proofs.Places.{heights-numbered, ranks-numbered}
 use Rattle.ranking.proofs.Prefixes.{completions-ways}
-use Rattle.ranking.proofs.Sorted.{sorted-select, sorted-at, sorted-numbering}
+use Rattle.ranking.proofs.Selected.{heights-selected, ranks-selected}
+use Rattle.ranking.proofs.Sorted.{sorted-at}
 use Rattle.ranking.proofs.Strings.{heightWindows-sorted}
 
 -- ---- ranks keep the number of different symbols
@@ -51,34 +51,21 @@ different-ranks w = different-map (λ x. suc (below w x)) w (λ x y i j e.
 
 -- ---- the weak orders of n with k different symbols
 
-abbrev HeightsWith : ℕ → ℕ → List ℕ → Type 0
-HeightsWith n k w = HeightWindow n w × (different w ≡ k)
+-- the test for k different symbols, and what it says
+as-said : {P : List ℕ → Type 0} {N : ℕ} (k : ℕ) → Exactly N (λ w. P w × (eqb (different w) k ≡ true)) → Exactly N (λ w. P w × (different w ≡ k))
+as-said k E = exactly-as E (λ w. (λ (h, e). (h, eqb-true (different w) k e), λ (h, e). (h, eq-eqb (different w) k e)))
 
-heights-with : (n k : ℕ) → Exactly (L n k) (HeightsWith n k)
-heights-with n k =
-    let p : List ℕ → Bool = λ w. eqb (different w) k in
-    let xs = select p (heightWindows n) in
-    let S = sorted-numbering lexLt lexLt-irreflexive lexLt-asymmetric [] xs (sorted-select p (heightWindows-sorted n)) in
-    let N : length xs ≡ L n k = length-select p (heightWindows n) ∙ heightWindows-different n k in
-    let M : Matching (λ w. w ∈ xs) (HeightsWith n k) (λ w. w) (λ w. w) = record {
-      to-in = λ w (h, e). in-select p (in-heightWindows n w h) (eq-eqb (different w) k e);
-      from-in = λ w m. let (i, e) = of-select p (heightWindows n) m in (of-heightWindows n i, eqb-true (different w) k e);
-      from-to = λ w q. refl;
-      to-from = λ w q. refl;
-    } in
-    (_, _, rw N at (numbering-through S M))
+heights-with : (n k : ℕ) → Exactly (L n k) (λ w. HeightWindow n w × (different w ≡ k))
+heights-with n k = as-said k (rw (heightWindows-different n k) at (heights-selected (λ w. eqb (different w) k) n))
 
 ranks-with : (n k : ℕ) → Exactly (L n k) (λ w. RankWindow n w × (different w ≡ k))
 ranks-with n k =
-    let (place, item, H) = heights-with n k in
-    let R = ranks-match n in
-    let M : Matching (HeightsWith n k) (λ w. RankWindow n w × (different w ≡ k)) heights ranks = record {
-      to-in = λ w (h, e). (R .to-in w h, sym (different-ranks (heights w)) ∙ ap different (R .from-to w h) ∙ e);
-      from-in = λ w (h, e). (R .from-in w h, different-ranks w ∙ e);
-      from-to = λ w (h, e). R .from-to w h;
-      to-from = λ w (h, e). R .to-from w h;
-    } in
-    (_, _, numbering-through H M)
+    let p : List ℕ → Bool = λ w. eqb (different w) k in
+    let N : count p (map ranks (heightWindows n)) ≡ L n k =
+    count-map p ranks (heightWindows n)
+    ∙ count-cong (λ w. p (ranks w)) p (heightWindows n) (λ w m. ap (λ d. eqb d k) (different-ranks w))
+    ∙ heightWindows-different n k in
+    as-said k (rw N at (ranks-selected p n))
 
 -- ---- the places are in dictionary order
 

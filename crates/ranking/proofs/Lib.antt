@@ -14,4 +14,5 @@ pub mod Loops
 pub mod Answered
 pub mod Tried
 pub mod Numberings
+pub mod Selected
 pub mod CountsAndPlaces

@@ -1,7 +1,8 @@
 -- A numbering of some things numbers what corresponds to them one to one. Assumes nothing.
-use mathlib.Core.Path.{_≡_, ap, _∙_}
+use mathlib.Core.Logic.{_↔_}
+use mathlib.Core.Path.{_≡_, refl, ap, _∙_}
 use Prim.Native.Nat.{ℕ}
-use Rattle.ranking.specs.Numbering.{Numbering}
+use Rattle.ranking.specs.Numbering.{Numbering, Exactly}
 
 -- `to` and `from` take what Q holds of to what P holds of, and back
 pub record Matching {A B : Type 0} (P : A → Type 0) (Q : B → Type 0) (to : B → A) (from : A → B) : Type 0 where
@@ -18,3 +19,14 @@ numbering-through {place = place} {item} {to} {from} H M = record {
   item-in = λ i l. M .from-in (item i) (H .item-in i l);
   place-item = λ i l. ap place (M .to-from (item i) (H .item-in i l)) ∙ H .place-item i l;
 }
+
+-- and the same things, said in other words
+pub exactly-as : {A : Type 0} {P Q : A → Type 0} {N : ℕ} → Exactly N P → ((w : A) → P w ↔ Q w) → Exactly N Q
+exactly-as {A} {P} {Q} (place, item, H) same =
+    let M : Matching P Q (λ w. w) (λ w. w) = record {
+      to-in = λ w. same w .1;
+      from-in = λ w. same w .0;
+      from-to = λ w q. refl;
+      to-from = λ w p. refl;
+    } in
+    (_, _, numbering-through H M)
