@@ -6,25 +6,34 @@ HEADERS = include/wko.h include/wko_frames.h
 SOURCES := crates.txt $(shell find crates -name '*.rt' -o -name '*.antt')
 EXAMPLES = target/host/example target/host/link target/host/fill
 TESTS = target/host/test_calls target/host/test_session target/host/stack
-MODELS = target/host/replay_records target/host/event_records target/host/sheet_answers
+MODELS = target/host/replay_records target/host/event_records target/host/sheet_answers target/host/step_counts
+PROGRAMS = target/bin/round target/bin/step_kinds
 
-.PHONY: help run test lib host host-test install uninstall dev fmt edits rings graph tables trust size bench clean
+.PHONY: help run kinds test lib host host-test install uninstall dev fmt edits rings graph tables trust size bench clean
 
 help:
 	@sed -n 's/^## //p' Makefile
 
 ## make run [SHEET=file]        prints the round of a sheet: docs/sample.sheet, or the file
-# A program has no exit status: where round says something on standard error, the sheet is refused or the run has failed.
 SHEET = docs/sample.sheet
 run: target/bin/round
-	@{ said=$$(target/bin/round <$(SHEET) 2>&1 >&3); } 3>&1; status=$$?; \
-	[ -z "$$said" ] || printf '%s\n' "$$said" >&2; \
-	[ $$status -eq 0 ] && [ -z "$$said" ]
+	@$(call watched,target/bin/round <$(SHEET))
 
-target/bin/round: $(SOURCES)
+# A program has no exit status: where it says something on standard error, the sheet is refused or the run has failed.
+define watched
+{ said=$$($(1) 2>&1 >&3); } 3>&1; status=$$?; \
+[ -z "$$said" ] || printf '%s\n' "$$said" >&2; \
+[ $$status -eq 0 ] && [ -z "$$said" ]
+endef
+
+## make kinds                   prints how many windows of n = 1 to 8 each rule follows by the symbol that they drop, and how many by another
+kinds: target/bin/step_kinds
+	@$(call watched,target/bin/step_kinds)
+
+$(PROGRAMS): target/bin/%: $(SOURCES)
 	@mkdir -p target
-	@echo "building target/bin/round; what it rests on is proved first, some minutes where nothing is yet" >&2
-	@rt check round >target/round.log 2>&1 || { tail -n 20 target/round.log; exit 1; }
+	@echo "building $@; what it rests on is proved first, some minutes where nothing is yet" >&2
+	@rt check $* >target/$*.log 2>&1 || { tail -n 20 target/$*.log; exit 1; }
 	@touch $@ # it keeps its old time where nothing in it has changed
 
 ## make test                    the gate: removes target/, proves all from nothing, tries the edits that must fail, runs the programs and host tests
@@ -69,7 +78,7 @@ $(EXAMPLES) target/host/tables: target/host/%: host/%.c $(HEADERS) $(LIB)
 	@$(CC) $(CFLAGS) -Iinclude -o $@ $< $(LIB)
 
 ## make host-test               the host tests alone, on the library as it is built
-host-test: $(TESTS) $(MODELS) $(EXAMPLES) target/host/tables target/host/print_round target/bin/round
+host-test: $(TESTS) $(MODELS) $(EXAMPLES) $(PROGRAMS) target/host/tables target/host/print_round
 	@for t in example link; do target/host/$$t | cmp - host/$$t.out || exit 1; done
 	@target/host/fill >target/host/fill.log || { cat target/host/fill.log; exit 1; } # which start it prints is free
 	@host/readme.sh

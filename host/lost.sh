@@ -1,6 +1,6 @@
 #!/bin/sh
-# Nothing is lost silently: what round, replay and replay_events could not read or write, they say in one line on standard error; of a good
-# run they say nothing.
+# Nothing is lost silently: what round, replay, replay_events and step_kinds could not read or write, they say in one line on standard error; of a
+# good run they say nothing.
 set -u
 # these two are no targets of the Makefile
 rt check replay replay_events >target/replay.log 2>&1 || { tail -n 20 target/replay.log && exit 1; }
@@ -21,6 +21,11 @@ $round <. 2>$said | cmp - /dev/null || status=1
 says "round of a directory" "round: could not read the sheet: Is a directory"
 $round <crates/round/stdin >&- 2>$said
 says "round with no standard output" "round: could not write the round: Bad file descriptor"
+
+target/bin/step_kinds 2>$said | cmp - crates/step_kinds/stdout || status=1
+says "step_kinds" ""
+target/bin/step_kinds >&- 2>$said
+says "step_kinds with no standard output" "step_kinds: could not write the numbers: Bad file descriptor"
 
 # The two programs that play records. A frame's record is the same for both, but for the F in front of replay_events'.
 for program in replay replay_events; do
@@ -68,7 +73,11 @@ says "replay_events of an unknown record" "replay_events: a record starts with n
 if [ -c /dev/full ]; then
   $round <crates/round/stdin >/dev/full 2>$said
   says "round to a full device" "round: could not write the round: No space left on device"
-  ! make --no-print-directory run >/dev/full 2>/dev/null || { echo "make run to a full device: passed" && status=1; }
+  target/bin/step_kinds >/dev/full 2>$said
+  says "step_kinds to a full device" "step_kinds: could not write the numbers: No space left on device"
+  for goal in run kinds; do
+    ! make --no-print-directory $goal >/dev/full 2>/dev/null || { echo "make $goal to a full device: passed" && status=1; }
+  done
 fi
 
 # A reader that leaves early: where the pipe's signal is ignored the write fails.
@@ -79,5 +88,5 @@ printf 'n rule top spacing start\n8 1 -1000 100 1,1,1,1,1,1,1,1\n' >$input
   [ $? -ne 124 ] || echo "timed out" >>$said
 ) | head -c 1000 >/dev/null
 says "round whose reader leaves" "round: could not write the round: Broken pipe"
-[ $status -eq 0 ] && echo "round, replay and replay_events: what is not read or written is said"
+[ $status -eq 0 ] && echo "round, replay, replay_events and step_kinds: what is not read or written is said"
 exit $status

@@ -38,6 +38,7 @@ look "what make run prints" 'target/bin/round <docs/sample.sheet'
 look "what round says of a tab" 'tr " " "\t" <docs/sample.sheet | target/bin/round 2>&1 >/dev/null'
 look "the first steps of a round" 'target/bin/round <docs/picture/sheet | awk -f docs/picture/steps.awk'
 look "the rings of a round" 'target/bin/round <docs/picture/sheet | awk -f docs/picture/rings.awk'
+look "what step_kinds prints for n = 3" "target/bin/step_kinds | awk 'NR == 1 || \$1 == 3'"
 look "what the crates need (make graph)" 'awk -f docs/picture/graph.awk crates.txt'
 look "the counts (make tables)" 'target/host/tables counts'
 look "the refusals (make tables)" 'target/host/tables refusals'
