@@ -203,6 +203,17 @@ void ref_step(int rule, uint8_t *w, int n)
     w[n - 1] = (uint8_t)s;
 }
 
+int ref_next_string(uint8_t *w, int n, int most)
+{
+    int i = n - 1;
+    while (i >= 0 && w[i] == most)
+        w[i--] = 0;
+    if (i < 0)
+        return 0;
+    w[i]++;
+    return 1;
+}
+
 /* The ways to fill r places so that each of m missing heights occurs, p others being allowed; filled once by its recurrence. */
 static uint64_t ways_table[17][17][18];
 static int ways_ready;

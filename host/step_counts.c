@@ -27,17 +27,6 @@ static void count(struct counts *c, int rule, const uint8_t *heights, int n)
         c->rings += ref_rotation_start(rule, w, n) == 1;
 }
 
-/* The next string of n symbols below n, in dictionary order: whether there is one. */
-static int next_string(uint8_t *s, int n)
-{
-    for (int i = n - 1; i >= 0; i--) {
-        if (++s[i] < n)
-            return 1;
-        s[i] = 0;
-    }
-    return 0;
-}
-
 static struct counts count_all(int rule, int n)
 {
     struct counts c = {0, 0, 0};
@@ -45,7 +34,7 @@ static struct counts count_all(int rule, int n)
     do
         if (ref_is_height(s, n))
             count(&c, rule, s, n);
-    while (next_string(s, n));
+    while (ref_next_string(s, n, n - 1));
     return c;
 }
 

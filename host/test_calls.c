@@ -51,16 +51,10 @@ static void check_conversion(int to_heights, uint64_t n, const uint8_t *w, size_
 static void all_strings(int n)
 {
     uint8_t w[16] = {0};
-    for (;;) {
-        int i = n - 1;
+    do {
         check_conversion(1, (uint64_t)n, w, (size_t)n, 16);
         check_conversion(0, (uint64_t)n, w, (size_t)n, (size_t)n);
-        while (i >= 0 && w[i] == n + 1)
-            w[i--] = 0;
-        if (i < 0)
-            return;
-        w[i]++;
-    }
+    } while (ref_next_string(w, n, n + 1));
 }
 
 static const uint64_t lengths[] = {0, 1, 2, 8, 15, 16, 17, 18, 255, 256, 257, 4294967297u, UINT64_MAX};

@@ -11,12 +11,10 @@ use lib.Seq.{length-take-le, getD-take}
 use borrow.Author.Tests.{lt-ltb, le-ltb}
 use Rattle.weak_orders.specs.Window.{isLength}
 use Rattle.weak_orders.proofs.FormTests.{says-length}
-use Rattle.weak_orders.proofs.Padded.{take-padded, length-padded}
 use Rattle.weak_orders.proofs.Tests.{says-and, says-lt, says-le}
 use Rattle.successors.specs.NextSymbol.{steppable}
-use Rattle.successors.specs.Rules.{ruleOf, inForm, isRule, step}
-use Rattle.successors.proofs.Steppable.{says-steppable}
-use Rattle.successors.proofs.StepForm.{step-length, step-in-form}
+use Rattle.successors.proofs.Steppable.{Steppable}
+use Rattle.successors.proofs.Stepped.{Stepped, stepped}
 use Rattle.frames.specs.Answer.{newest}
 use Rattle.levels.specs.Level.{levelOf}
 use Rattle.printing.specs.Writing.{written, Wrote}
@@ -27,52 +25,17 @@ use Rattle.printing.proofs.Written.{wrote-none, wrote-then, wrote-lengt
 
 -- ---- a state that can be stepped
 
-pub record Steps (p : Printing) : Type 0 where
-  pub known : isRule (p .rule) ≡ true
-  pub sized : isLength (p .n) ≡ true
-  pub formed : inForm (p .rule) (take (p .n) (p .window)) ≡ true
-
-pub steps-of : (p : Printing) → steppable (p .rule) (p .n) (p .window) ≡ true → Steps p
-steps-of p e =
-    let (r, (l, f)) = says-steppable (p .rule) (p .n) (p .window) .to e in
-    record { known = r; sized = l; formed = f }
-
-pub of-steps : (p : Printing) → Steps p → steppable (p .rule) (p .n) (p .window) ≡ true
-of-steps p s = says-steppable (p .rule) (p .n) (p .window) .of (s .known, (s .sized, s .formed))
+abbrev pub Steps : Printing → Type 0
+Steps p = Steppable (p .rule) (p .n) (p .window)
 
 -- the window after a step
-module _ (p : Printing) (s : Steps p) (long : length (p .window) ≡ 16) where
-  abbrev w : List ℕ
-  w = take (p .n) (p .window)
-
-  n-bounds : (1 ≤ p .n) × (p .n ≤ 16)
-  n-bounds = says-length (p .n) .to (s .sized)
-
-  w-length : length w ≡ p .n
-  w-length = length-take-le (p .n) (p .window) (omega (arith, n-bounds))
-
-  next-length : length (step (ruleOf (p .rule)) w) ≡ p .n
-  next-length = step-length (ruleOf (p .rule)) w (omega (arith, n-bounds, w-length)) ∙ w-length
-
-  pub onward-window : take (p .n) (onward p .window) ≡ step (ruleOf (p .rule)) w
-  unfolding onward
-  onward-window = take-padded (step (ruleOf (p .rule)) w) (p .n) next-length
-
-  pub onward-long : length (onward p .window) ≡ 16
-  unfolding onward
-  onward-long = length-padded (step (ruleOf (p .rule)) w) (omega (arith, n-bounds, next-length))
-
-  pub onward-steps : Steps (onward p)
-  unfolding onward
-  onward-steps = record {
-    known = s .known;
-    sized = s .sized;
-    formed = rw onward-window (step-in-form (p .rule) w (omega (arith, n-bounds, w-length)) (s .formed));
-  }
+pub onward-stepped : (p : Printing) → Steps p → length (p .window) ≡ 16 → Stepped (p .rule) (p .n) (p .window) (onward p .window)
+unfolding onward
+onward-stepped p s long = stepped long s refl
 
 pub onward-sized : (p q : Printing) → q ≡ onward p → Steps p → isLength (q .n) ≡ true
 unfolding onward
-onward-sized p q e s = rw e (s .sized)
+onward-sized p q e s = rw e (s .1 .0)
 
 pub onward-left : (p q : Printing) → q ≡ onward p → p .done < p .last → q .last - q .done < p .last - p .done
 unfolding onward
@@ -139,8 +102,8 @@ module _ {p : Printing} {out : List ℕ} {now : Printing} {len : ℕ} {out′ : 
         text = f .text ++ lastLine q;
         wrote = wrote-then (f .wrote) w (omega (arith, f .room));
         room = omega arith;
-        steps = onward-steps now (f .steps) (f .long);
-        long = onward-long now (f .steps) (f .long);
+        steps = onward-stepped now (f .steps) (f .long) .ready;
+        long = onward-stepped now (f .steps) (f .long) .long;
         rest = f .rest ∙ ap (below (f .text)) more ∙ below-below (f .text) (lastLine q) _ ∙ rw (left, room);
       }
 

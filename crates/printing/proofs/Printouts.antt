@@ -17,6 +17,7 @@ use Rattle.weak_orders.proofs.Tests.{_∈_, here, there, by-test, says-and, say
 use Rattle.ranking.specs.Counts.{a}
 use Rattle.successors.specs.NextSymbol.{steppable}
 use Rattle.successors.specs.Rules.{ruleOf, inForm, WeakOrder, isRule, step}
+use Rattle.successors.proofs.Steppable.{says-steppable}
 use Rattle.universal_cycle.specs.Round.{Tour}
 use Rattle.universal_cycle.proofs.Rounds.{universal-cycle}
 use Rattle.refusals.specs.declared.Cause.{Cause}
@@ -34,7 +35,7 @@ use Rattle.printing.specs.Printing.{Printed, below, pageOf, pageIn}
 use Rattle.printing.specs.Claims.{pages, Claims}
 use Rattle.sheets.proofs.Judging.{in-bounds}
 use Rattle.sheets.proofs.SheetTexts.{reads-as}
-use Rattle.printing.proofs.Filling.{Steps, of-steps, onward-window, onward-long, onward-steps}
+use Rattle.printing.proofs.Filling.{Steps, onward-stepped}
 
 -- ---- a state on the way through a round
 
@@ -54,11 +55,11 @@ module _ {r : Round} {last k : ℕ} {p : Printing} (at : At r last k p) where
   at-onward = record {
     rule = at .rule;
     setting = at .setting;
-    window = onward-window p (at .steps) (at .long) ∙ rw (at .rule, at .window);
+    window = onward-stepped p (at .steps) (at .long) .window ∙ rw (at .rule, at .window);
     done = rw add-one (ap suc (at .done));
     end = at .end;
-    steps = onward-steps p (at .steps) (at .long);
-    long = onward-long p (at .steps) (at .long);
+    steps = onward-stepped p (at .steps) (at .long) .ready;
+    long = onward-stepped p (at .steps) (at .long) .long;
   }
 
   at-line : lastLine p ≡ roundLine r k
@@ -115,7 +116,7 @@ pages-join {r} {last} {k} {p} (room ∷ rooms) h at =
     let (q, t) = pageOf (p .last - p .done) room p in
     let one = page-reaches (p .last - p .done) room at in
     let more = pages-join rooms (omega (arith, one .most)) (one .at) in
-    rw (of-steps p (at .steps)) (record {
+    rw (says-steppable (p .rule) (p .n) (p .window) .of (at .steps)) (record {
       to = more .to;
       at = more .at;
       text = sym (append-assoc (roundLines r k) t (pages rooms q .1)) ∙ ap (λ l. l ++ pages rooms q .1) (one .text) ∙ more .text;
@@ -182,7 +183,7 @@ at-start x (pos, few) known (size, form) =
       window = refl;
       done = refl;
       end = rw (le-leb (x .n) 16 (omega arith));
-      steps = record { known = known; sized = says-length (x .n) .of (omega arith); formed = rw kept form };
+      steps = (known, (says-length (x .n) .of (omega arith), rw kept form));
       long = length-padded (x .start) (omega arith);
     }
 

@@ -17,8 +17,9 @@ use Rattle.rotations.proofs.Rotations.{_⟳_, ⟳-sym, swing, length-rotated, n
 use Rattle.ranking.specs.Numbering.{Exactly}
 use Rattle.ranking.proofs.Numberings.{exactly-as}
 use Rattle.successors.specs.Rules.{ruleOf, inForm, WeakOrder, step}
-use Rattle.rotating_steps.specs.Claims.{OneLeast, StepKinds, FirstValues}
+use Rattle.rotating_steps.specs.Claims.{OneLeast, StepKinds, Examples}
 use Rattle.rotating_steps.specs.Kinds.{weakOrders, rotates, same, other, necklaceOf, isNecklace, necklaces}
+use Rattle.rotating_steps.specs.Tallied.{tallied}
 use Rattle.rotating_steps.proofs.Counting.{count-not}
 use Rattle.rotating_steps.proofs.Exits.{twice-the-exits, exits-and-one}
 use Rattle.rotating_steps.proofs.Necklaces.{one-necklace, necklace-rotated, necklace-is, necklace-rank}
@@ -80,6 +81,19 @@ step-kinds = record {
   necklaces-of-3 = refl;
 }
 
-pub first-values : FirstValues
-unfolding other necklaces
-first-values = record { other-1 = refl; other-2 = refl; other-3 = refl; necklaces-first = refl }
+pub examples : Examples
+unfolding rotates inForm necklaceOf other necklaces tallied
+examples = record {
+  one-alone = refl;
+  all-ones = refl;
+  of-312 = refl;
+  of-321 = refl;
+  one-of-312 = one-least 3 (omega arith) (3 ∷ 1 ∷ 2 ∷ []) (refl, refl);
+  tally-of-3 = refl;
+  no-n = refl;
+  no-rule = refl;
+  other-1 = refl;
+  other-2 = refl;
+  other-3 = refl;
+  necklaces-first = refl;
+}

@@ -8,15 +8,14 @@ use native.Mathlib.Omega.{arith}
 use lib.Dec.{eqb}
 use lib.ListN.{length, take, getD}
 use lib.Seq.{length-take-le, getD-take, getD-at}
-use Rattle.weak_orders.specs.Window.{count, range, iter, padded, shifted}
+use Rattle.weak_orders.specs.Window.{count, range, iter, shifted}
 use Rattle.weak_orders.proofs.FormTests.{says-length}
 use Rattle.weak_orders.proofs.Lists.{count-nil, count-range, count-le-length, length-range}
-use Rattle.weak_orders.proofs.Padded.{take-padded, length-padded}
 use Rattle.weak_orders.proofs.Tests.{bit, by-test}
 use Rattle.successors.specs.NextSymbol.{stepOrStay}
 use Rattle.successors.specs.Rules.{ruleOf, step}
-use Rattle.successors.proofs.StepForm.{step-length, step-in-form}
 use Rattle.successors.proofs.Steppable.{Steppable, says-steppable, step-made}
+use Rattle.successors.proofs.Stepped.{Stepped, stepped}
 use Rattle.rotating_steps.specs.Kinds.{rotates}
 
 -- Of the first i windows from u on, those that the step does not rotate.
@@ -47,40 +46,29 @@ appended rule n [] e pos = absurd (omega arith)
 appended rule n (x ∷ b) e pos = getD-at b (rule (x ∷ b)) [] 0 (n - 1) (omega arith)
 
 module _ {r n : ℕ} {w v next : List ℕ} {total i d : ℕ} (W : Walking r n w v total i)
-    (stepped : next ≡ stepOrStay r n v) (compared : d ≡ cond (eqb (getD next (n - 1) 0) (getD v 0 0)) 0 1) where
+    (is : next ≡ stepOrStay r n v) (compared : d ≡ cond (eqb (getD next (n - 1) 0) (getD v 0 0)) 0 1) where
   pos : 1 ≤ n
   pos = sized W .0
 
-  few : n ≤ 16
-  few = sized W .1
-
-  size : length (take n v) ≡ n
-  size = length-take-le n v (omega (arith, few, W .long))
-
-  after : length (step (ruleOf r) (take n v)) ≡ n
-  after = step-length (ruleOf r) (take n v) (omega (arith, size, pos)) ∙ size
-
-  made : next ≡ padded (step (ruleOf r) (take n v))
-  made = stepped ∙ step-made r n v (says-steppable r n v .of (W .ready))
-
-  window : take n next ≡ step (ruleOf r) (take n v)
-  window = ap (take n) made ∙ take-padded _ n after
+  after : Stepped r n v next
+  after = stepped (W .long) (W .ready) (is ∙ step-made r n v (says-steppable r n v .of (W .ready)))
 
   one-more : d ≡ bit (not (rotates r (take n v)))
   unfolding rotates
   one-more =
       let u = take n v in
+      let size : length u ≡ n = length-take-le n v (omega (arith, sized W, W .long)) in
       let last : getD next (n - 1) 0 ≡ ruleOf r u =
-      sym (getD-take n next (n - 1) 0 (omega (arith, pos))) ∙ ap (λ l. getD l (n - 1) 0) window ∙ appended (ruleOf r) n u size pos in
+      sym (getD-take n next (n - 1) 0 (omega (arith, pos))) ∙ ap (λ l. getD l (n - 1) 0) (after .window) ∙ appended (ruleOf r) n u size pos in
       let first : getD v 0 0 ≡ getD u 0 0 = sym (getD-take n v 0 0 (omega (arith, pos))) in
       compared ∙ rw (last, first) (by-test (eqb (ruleOf r u) (getD u 0 0)) (λ t. rw t) (λ t. rw t))
 
   pub onward : Walking r n w next (total + d) (i + 1)
   unfolding iter
   onward = record {
-    long = ap length made ∙ length-padded _ (omega (arith, after, few));
-    ready = (W .ready .0, (W .ready .1 .0, rw window (step-in-form r (take n v) (omega (arith, size, pos)) (W .ready .1 .1))));
-    at = rw add-one (window ∙ ap (step (ruleOf r)) (W .at));
+    long = after .long;
+    ready = after .ready;
+    at = rw add-one (after .window ∙ ap (step (ruleOf r)) (W .at));
     tally = rw add-one (
         let at = ap (λ u. bit (not (rotates r u))) (W .at) in
         omega (arith, one-more, at, W .tally, count-range (λ k. not (rotates r (iter (step (ruleOf r)) k (take n w)))) i));

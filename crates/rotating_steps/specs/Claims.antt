@@ -10,6 +10,7 @@ use Rattle.ranking.specs.Counts.{a}
 use Rattle.ranking.specs.Numbering.{Exactly}
 use Rattle.successors.specs.Rules.{ruleOf, WeakOrder, step}
 use Rattle.rotating_steps.specs.Kinds.{rotates, same, other, necklaceOf, isNecklace, necklaces}
+use Rattle.rotating_steps.specs.Tallied.{tallied}
 
 -- the ring of the weak order w of n holds exactly one necklace, and that is a weak order of n
 pub record OneLeast (n : ℕ) (w : List ℕ) : Type 0 where
@@ -37,8 +38,20 @@ pub record StepKinds : Type 0 where
   pub other-of-3 : other 1 3 ≡ 8
   pub necklaces-of-3 : necklaces 3 ≡ 5
 
--- the numbers for n from 1 to 4, by computation
-pub record FirstValues : Type 0 where
+-- by computation, and the laws at work: nothing in them is vacuous
+pub record Examples : Type 0 where
+  -- in case 2 the only 1 is followed by 1, and of several ones the first by their number
+  pub one-alone : rotates 1 (1 ∷ 2 ∷ 3 ∷ []) ≡ true
+  pub all-ones : rotates 1 (1 ∷ 1 ∷ 1 ∷ []) ≡ false
+  -- the six weak orders of 3 without a tie lie on two rings
+  pub of-312 : necklaceOf (3 ∷ 1 ∷ 2 ∷ []) ≡ (1 ∷ 2 ∷ 3 ∷ [])
+  pub of-321 : necklaceOf (3 ∷ 2 ∷ 1 ∷ []) ≡ (1 ∷ 3 ∷ 2 ∷ [])
+  pub one-of-312 : OneLeast 3 (3 ∷ 1 ∷ 2 ∷ [])
+  -- what `tally_of` answers, and where it answers zeros
+  pub tally-of-3 : tallied 1 3 ≡ record { same = 5; other = 8 }
+  pub no-n : map (tallied 1) (0 ∷ 9 ∷ []) ≡ (record { same = 0; other = 0 } ∷ record { same = 0; other = 0 } ∷ [])
+  pub no-rule : map (λ r. tallied r 3) (0 ∷ 4 ∷ []) ≡ (record { same = 0; other = 0 } ∷ record { same = 0; other = 0 } ∷ [])
+  -- the numbers for n from 1 to 4
   pub other-1 : map (other 1) (1 ∷ 2 ∷ 3 ∷ 4 ∷ []) ≡ (0 ∷ 2 ∷ 8 ∷ 38 ∷ [])
   pub other-2 : map (other 2) (1 ∷ 2 ∷ 3 ∷ 4 ∷ []) ≡ (0 ∷ 2 ∷ 7 ∷ 32 ∷ [])
   pub other-3 : map (other 3) (1 ∷ 2 ∷ 3 ∷ 4 ∷ []) ≡ (0 ∷ 2 ∷ 7 ∷ 32 ∷ [])

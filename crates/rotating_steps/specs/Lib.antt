@@ -1,3 +1,3 @@
 pub mod Kinds
-pub mod Claims
 pub mod Tallied
+pub mod Claims

@@ -11,5 +11,6 @@ pub mod SetRTests
 pub mod RuleNumbers
 pub mod StepForm
 pub mod Steppable
+pub mod Stepped
 pub mod RotationsUnder
 pub mod Claims

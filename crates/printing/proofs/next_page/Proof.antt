@@ -11,10 +11,11 @@ use mir.Val.{Fits, SFits}
 use borrow.Author.Tests.{not-true, not-false}
 use Rattle.weak_orders.proofs.Tests.{says-and, says-lt, says-le}
 use Rattle.successors.specs.NextSymbol.{steppable}
+use Rattle.successors.proofs.Steppable.{says-steppable}
 use Rattle.levels.proofs.Sizes.{entry-fits}
 use Rattle.printing.specs.Printing.{onward, over, pageIn, laidOut, nextPage}
 use Rattle.printing.proofs.Written.{counts}
-use Rattle.printing.proofs.Filling.{steps-of, of-steps, onward-sized, onward-left, Filling, filled, filling-none, filling-on}
+use Rattle.printing.proofs.Filling.{onward-sized, onward-left, Filling, filled, filling-none, filling-on}
 use Rattle.printing.proofs.Filling.{filling-over}
 use Rattle.printing.proofs.Widths.{Held, last-line-width}
 use Rattle.printing.proofs.next_page.Statement.{statement}
@@ -58,14 +59,14 @@ loop-holds : tie.Need-loop-holds Inv-loop μ-loop
 loop-holds c =
     let s = c .before .before .before .before in
     let long : length (s .args .p .window) ≡ 16 = search needs in
-    filling-none (s .args .p) (s .args .out .now) (steps-of (s .args .p) (stepped c)) long
+    filling-none (s .args .p) (s .args .out .now) (says-steppable (s .args .p .rule) (s .args .p .n) (s .args .p .window) .to (stepped c)) long
 
 sub-if2 : tie.Need-sub-if2 Inv-loop μ-loop
 sub-if2 c = omega (arith, filled (c .before .loop .inv))
 
 onward-requires : tie.Need-onward-requires Inv-loop μ-loop
 onward-requires c κs =
-    let l = c .before .before .loop in (of-steps (l .now) (l .inv .steps), test c .0)
+    let l = c .before .before .loop in (says-steppable (l .now .rule) (l .now .n) (l .now .window) .of (l .inv .steps), test c .0)
 
 put-line-requires : tie.Need-put-line-requires Inv-loop μ-loop
 put-line-requires c κs =
