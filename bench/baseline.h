@@ -24,6 +24,6 @@ uint32_t baseline_period(uint64_t n, uint64_t rule, const uint8_t *window, size_
 uint32_t baseline_place(uint64_t n, const uint8_t *window, size_t window_len, uint8_t *out, size_t out_len);
 uint32_t baseline_window_at(uint64_t n, uint64_t place, uint8_t *out, size_t out_len);
 
-/* What wko_fill answers today, with the same tests: counted once, and filled in one pass. */
+/* What wko_fill answers, with the same tests: counted once, and filled in one pass. */
 uint32_t baseline_fill(uint64_t n, const uint8_t *pattern, size_t pattern_len, uint8_t *out, size_t out_len);
 #endif

@@ -289,40 +289,44 @@ int ref_is_pattern(const uint8_t *p, int n)
     return 1;
 }
 
-int ref_agrees(const uint8_t *p, const uint8_t *w, int n)
-{
-    for (int i = 0; i < n; i++)
-        if (p[i] != 255 && p[i] != w[i])
-            return 0;
-    return 1;
-}
-
-/* Some weak order has the fixed bytes of p, and the first i symbols of w. */
-static int fillable_from(const uint8_t *p, uint8_t *w, int i, int n)
+/* The strings that have the fixed bytes of p, and the first i symbols of w, are tried in dictionary order up to a weak order. */
+static int first_from(const uint8_t *p, uint8_t *w, int i, int n)
 {
     if (i == n)
         return ref_is_height(w, n);
     for (int v = 0; v < n; v++) {
         w[i] = (uint8_t)v;
-        if ((p[i] == 255 || p[i] == v) && fillable_from(p, w, i + 1, n))
+        if ((p[i] == 255 || p[i] == v) && first_from(p, w, i + 1, n))
             return 1;
     }
     return 0;
 }
 
-int ref_fillable_by_trying(const uint8_t *p, int n)
+int ref_earliest_by_trying(const uint8_t *p, int n, uint8_t *w)
 {
-    uint8_t w[16];
-    return fillable_from(p, w, 0, n);
+    return first_from(p, w, 0, n);
 }
 
-int ref_fillable_by_counting(const uint8_t *p, int n)
+/* No more heights are missing than places are open. */
+static int has_room(const uint8_t *p, int n)
 {
     int top = 0;
     for (int i = 0; i < n; i++)
         if (p[i] != 255 && p[i] + 1 > top)
             top = p[i] + 1;
     return top - different_below(p, n, top) <= num(p, n, 255);
+}
+
+int ref_earliest_by_counting(const uint8_t *p, int n, uint8_t *w)
+{
+    memcpy(w, p, (size_t)n);
+    if (!has_room(w, n))
+        return 0;
+    for (int i = 0; i < n; i++)
+        if (w[i] == 255)
+            for (w[i] = 0; !has_room(w, n); w[i]++) {
+            }
+    return 1;
 }
 
 int ref_setting_ok(int n, long top, long spacing)

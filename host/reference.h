@@ -22,12 +22,12 @@ uint64_t ref_count(int n);
 uint64_t ref_place(const uint8_t *w, int n);
 void ref_window_at(int n, uint64_t place, uint8_t *out);
 
-/* Patterns in height form, 255 for an open place: whether p is one, whether w has its fixed bytes, and whether some weak order has, by trying
- * all of them (for small n), and by counting the missing heights. */
+/* Patterns in height form, 255 for an open place: whether p is one; and into w the first weak order in dictionary order that has its fixed bytes,
+ * or 0 where none has: by trying all in this order (for small n), and by giving each open place, from the left, the least height that leaves an
+ * open place for each missing one. */
 int ref_is_pattern(const uint8_t *p, int n);
-int ref_agrees(const uint8_t *p, const uint8_t *w, int n);
-int ref_fillable_by_trying(const uint8_t *p, int n);
-int ref_fillable_by_counting(const uint8_t *p, int n);
+int ref_earliest_by_trying(const uint8_t *p, int n, uint8_t *w);
+int ref_earliest_by_counting(const uint8_t *p, int n, uint8_t *w);
 
 /* Even spacing: whether top and spacing pass test 9, and the level of a symbol. */
 int ref_setting_ok(int n, long top, long spacing);

@@ -356,35 +356,35 @@ static void refusals_of_places(void)
     check_place(3, w, 3, 8);
 }
 
-/* What document 02 says of a pattern. Which weak order is written is free: it has to be one, and to agree. */
+/* What document 02 says of a pattern: a refusal, or the first weak order that agrees, by its very bytes. */
 static void check_fill(uint64_t n, const uint8_t *p, size_t len, size_t out_len)
 {
-    uint8_t *out = lend_out(out_len);
-    uint32_t want = n < 1 || n > 16                                ? 256 + 6
-                    : out_len < n                                  ? 256 + 1
-                    : len != n || !ref_is_pattern(p, (int)n)       ? 256 + 8
-                    : !ref_fillable_by_counting(p, (int)n)         ? 256 + 15
-                                                                   : 0;
+    uint8_t *out = lend_out(out_len), bytes[16];
+    uint32_t want = n < 1 || n > 16                               ? 256 + 6
+                    : out_len < n                                 ? 256 + 1
+                    : len != n || !ref_is_pattern(p, (int)n)      ? 256 + 8
+                    : !ref_earliest_by_counting(p, (int)n, bytes) ? 256 + 15
+                                                                  : 0;
     uint32_t got = wko_fill(n, lend(p, len), len, out, out_len);
     size_t written = want == 0 ? (size_t)n : 0;
     CHECK(got == want, "fill, n = %llu, length %zu, buffer %zu: %u, not %u", (unsigned long long)n, len, out_len, got, want);
+    CHECK(memcmp(out, bytes, written) == 0, "fill, n = %llu: not the first in dictionary order", (unsigned long long)n);
     CHECK(untouched(out_page, out, written, out_len), "fill wrote beside its %zu bytes", written);
-    if (want == 0)
-        CHECK(ref_is_height(out, (int)n) && ref_agrees(p, out, (int)n), "what fill wrote for n = %llu is no filling", (unsigned long long)n);
 }
 
 /* Each pattern of n, with the byte n beside those that are allowed; gives how many patterns no weak order agrees with. */
 static int all_patterns(int n)
 {
-    uint8_t p[16] = {0};
+    uint8_t p[16] = {0}, tried[16], counted[16];
     int without = 0;
     for (;;) {
         int i = n - 1;
         check_fill((uint64_t)n, p, (size_t)n, (size_t)n);
         if (ref_is_pattern(p, n)) {
-            int fillable = ref_fillable_by_trying(p, n);
-            without += !fillable;
-            CHECK(ref_fillable_by_counting(p, n) == fillable, "counting and trying differ on a pattern of n = %d", n);
+            int some = ref_earliest_by_trying(p, n, tried);
+            without += !some;
+            CHECK(ref_earliest_by_counting(p, n, counted) == some && (!some || memcmp(tried, counted, (size_t)n) == 0),
+                  "counting and trying differ on a pattern of n = %d", n);
         }
         while (i >= 0 && p[i] == 255)
             p[i--] = 0;
@@ -401,18 +401,23 @@ static void small_patterns(void)
         CHECK(all_patterns(n) == without[n], "of the patterns of n = %d not %d are without a weak order", n, without[n]);
 }
 
-/* Random weak orders with places opened, one in three with a byte changed, one in eight into a buffer or of a length that may not do. */
+/* A weak order of n with some of its places opened, no, few, many or all. */
+static void random_pattern(int n, uint8_t *w, uint8_t *p)
+{
+    uint64_t opened = random_below(5);
+    ref_random_heights(random64, n, w);
+    for (int i = 0; i < n; i++)
+        p[i] = random_below(4) < opened ? 255 : w[i];
+}
+
+/* One in three with a byte changed, one in eight into a buffer or of a length that may not do. */
 static void random_patterns(long rounds)
 {
     for (long k = 0; k < rounds; k++) {
         int n = 1 + (int)random_below(16);
         size_t len = (size_t)n, out_len = (size_t)n + random_below(4);
-        uint64_t opened = random_below(5);
-        uint8_t p[17] = {0};
-        ref_random_heights(random64, n, p);
-        for (int i = 0; i < n; i++)
-            if (random_below(4) < opened)
-                p[i] = 255;
+        uint8_t w[16], p[17] = {0};
+        random_pattern(n, w, p);
         if (random_below(3) == 0)
             p[random_below((uint64_t)n)] = (uint8_t)random_below(k % 2 ? (uint64_t)n + 1 : 256);
         if (random_below(8) == 0) {
@@ -420,6 +425,22 @@ static void random_patterns(long rounds)
             out_len = random_below(18);
         }
         check_fill((uint64_t)n, p, len, out_len);
+    }
+}
+
+/* Two benches fill one pattern, each into a buffer of its own: the same bytes, and the weak order that the pattern was made of does not stand
+ * before them. */
+static void two_benches(long rounds)
+{
+    for (long k = 0; k < rounds; k++) {
+        int n = 1 + (int)random_below(16);
+        size_t len = (size_t)n;
+        uint8_t w[16], p[16], first[16] = {0}, second[16];
+        memset(second, 255, sizeof second);
+        random_pattern(n, w, p);
+        CHECK(wko_fill(len, p, len, first, len) == 0 && wko_fill(len, lend(p, len), len, second, 16) == 0, "fill, n = %d: refused", n);
+        CHECK(memcmp(first, second, len) == 0, "fill, n = %d: two benches have different windows", n);
+        CHECK(memcmp(first, w, len) <= 0, "fill, n = %d: another one stands before it", n);
     }
 }
 
@@ -439,14 +460,29 @@ static void refusals_of_fill(void)
                 }
 }
 
-/* Document 02, "third sweep on top, fifth level with it". */
+/* Patterns and what is written for each. */
 static void worked_patterns(void)
 {
-    const uint8_t service[5] = {255, 255, 0, 255, 0}, gap[3] = {0, 0, 2}, whole[3] = {2, 0, 1};
-    uint8_t out[5];
-    CHECK(wko_fill(5, service, 5, out, 5) == 0 && out[2] == 0 && out[4] == 0 && ref_is_height(out, 5), "the third and the fifth on top");
+    static const struct {
+        uint8_t n, pattern[16], start[16];
+    } filled[] = {
+        {5, {255, 255, 0, 255, 0}, {0, 0, 0, 0, 0}}, /* "third sweep on top, fifth level with it" */
+        {5, {255, 0, 255, 3, 255}, {0, 0, 1, 3, 2}},
+        {4, {255, 255, 255, 2}, {0, 0, 1, 2}},
+        {3, {255, 255, 1}, {0, 0, 1}},
+        {3, {2, 0, 1}, {2, 0, 1}}, /* no open place */
+        {1, {255}, {0}},
+        {1, {0}, {0}},
+        {16, {255, 255, 255, 255, 255, 255, 255, 255, 255, 255, 255, 255, 255, 255, 255, 255}, {0}},
+        {16, {255, 255, 255, 255, 255, 255, 255, 255, 255, 255, 255, 255, 255, 255, 255, 15}, {0, 1, 2, 3, 4, 5, 6, 7, 8, 9, 10, 11, 12, 13, 14, 15}},
+    };
+    const uint8_t gap[3] = {0, 0, 2};
+    uint8_t out[16];
+    for (size_t k = 0; k < sizeof filled / sizeof *filled; k++) {
+        size_t n = filled[k].n;
+        CHECK(wko_fill(n, filled[k].pattern, n, out, n) == 0 && memcmp(out, filled[k].start, n) == 0, "worked pattern %zu", k);
+    }
     CHECK(wko_fill(3, gap, 3, out, 3) == 256 + 15, "0,0,2 is 15");
-    CHECK(wko_fill(3, whole, 3, out, 3) == 0 && memcmp(out, whole, 3) == 0, "a weak order is its own answer");
     CHECK(wko_fill(0, NULL, 0, NULL, 0) == 256 + 6, "no pattern at all is 6");
 }
 
@@ -507,5 +543,6 @@ int main(void)
     small_patterns();
     refusals_of_fill();
     random_patterns(200000);
+    two_benches(200000);
     return report("direct calls");
 }

@@ -17,7 +17,7 @@
 #include <stddef.h>
 #include <stdint.h>
 
-#define WKO_LIBRARY_VERSION "4.0.0"
+#define WKO_LIBRARY_VERSION "4.1.0"
 #define WKO_MAX_N 16     /* symbols of the longest window */
 #define WKO_FRAME_LEN 40 /* bytes of a frame, and of its answer */
 #define WKO_OPEN 255     /* an open place of a pattern */
@@ -134,8 +134,9 @@ uint32_t wko_place(uint64_t n, const uint8_t *window, size_t window_len, uint8_t
 uint32_t wko_window_at(uint64_t n, uint64_t place, uint8_t *out, size_t out_len);
 
 /* A window from a pattern: n bytes in height form, each a height below n that is fixed there, or WKO_OPEN. Height 0 is the highest level.
- * Writes a weak order of n in height form that has every fixed byte, n bytes, to the front of out, which has out_len >= n. Which one is
- * not promised where several agree, and may change; a pattern that is a weak order itself, with no open place, is its own answer.
+ * Writes the first in dictionary order of the weak orders of n in height form that have every fixed byte, n bytes, to the front of out, which
+ * has out_len >= n: of those that agree, the one with the least place. So one pattern is filled alike on every bench; one that is a weak order
+ * itself, with no open place, is its own answer.
  * Refusals 6, 1, 8, 15; 15 is given just where no weak order of n agrees: 0,0,2 has no open place for the missing 1. */
 uint32_t wko_fill(uint64_t n, const uint8_t *pattern, size_t pattern_len, uint8_t *out, size_t out_len);
 

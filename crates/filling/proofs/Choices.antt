@@ -1,4 +1,4 @@
--- The height for the first open place of a pattern leaves room for the missing ones. Assumes nothing.
+-- The height for the first open place of a pattern leaves room for the missing ones, and no smaller one does. Assumes nothing.
 use mathlib.Core.Bool.{Bool, true, false, not}
 use mathlib.Core.List.{List, _∷_, _++_}
 use mathlib.Core.Path.{_≡_, refl, sym, ap, _∙_}
@@ -7,13 +7,13 @@ use native.Mathlib.Omega.{arith}
 use native.Mathlib.Decide.{decLt}
 use lib.ListN.{getD}
 use borrow.Author.Tests.{lt-ltb, le-ltb, not-true}
-use Rattle.weak_orders.specs.Window.{range, occurs, different, bound, height}
+use Rattle.weak_orders.specs.Window.{range, occurs, different, bound}
 use Rattle.weak_orders.proofs.Lists.{first-index, first-index-none, of-range, length-range, getD-range}
 use Rattle.weak_orders.proofs.Symbols.{in-occurs, height-gap, added-middle, bound-in, bound-middle, different-below, different≤bound}
 use Rattle.weak_orders.proofs.Symbols.{different-same, different-more}
-use Rattle.weak_orders.proofs.Tests.{there, by-test, bit, false→not-true}
+use Rattle.weak_orders.proofs.Tests.{by-test, bit, false→not-true}
+use Rattle.filling.specs.Choice.{leastMissing, choice}
 use Rattle.filling.specs.Pattern.{isOpen, fixed, openPlaces, missing}
-use Rattle.filling.specs.Filled.{leastMissing, choice}
 use Rattle.filling.proofs.Patterns.{fixed-open, fixed-held, open-cons, open-append, fixed-append}
 
 -- the least missing height, where there is one
@@ -21,7 +21,7 @@ module _ (w : List ℕ) where
   abbrev test : ℕ → Bool
   test v = not (occurs w v)
 
-  pub least-up-to : (j : ℕ) → j < bound w → occurs w j ≡ false →
+  least-up-to : (j : ℕ) → j < bound w → occurs w j ≡ false →
       (leastMissing w ≤ j) × (test (getD (range (bound w)) (leastMissing w) 0) ≡ true)
   unfolding leastMissing
   least-up-to j lt o = first-index test (range (bound w)) 0 j (omega (arith, length-range (bound w)))
@@ -33,6 +33,9 @@ module _ (w : List ℕ) where
       let (le, t) = least-up-to u lt o in
       let l : leastMissing w < bound w = omega arith in
       (l, not-true (occurs w (leastMissing w)) (ap test (sym (getD-range (bound w) (leastMissing w) l)) ∙ t))
+
+  below-least : (y : ℕ) → y < leastMissing w → y < bound w → occurs w y ≡ true
+  below-least y lt in-bound = by-test (occurs w y) (λ o. o) (λ o. absurd (omega (arith, least-up-to y in-bound o)))
 
   -- where all below v are there and v is not, it is v
   pub least-at : (v : ℕ) → ((u : ℕ) → u < v → occurs w u ≡ true) → occurs w v ≡ false → leastMissing w ≡ v
@@ -97,6 +100,15 @@ module _ (u v : List ℕ) (b : ℕ) (o : isOpen b ≡ true) where
         let new : occurs w x ≡ false = ap (occurs w) e ∙ i in
         omega (arith, one-less, missing-before, missing-new new)
 
+    -- and then a smaller one is fixed already, and leaves a place too few
+    crowded : x < leastMissing (fixed u ++ fixed v) → missing (u ++ (b ∷ v)) ≡ openPlaces (u ++ (b ∷ v)) →
+        ¬ (missing (u ++ (x ∷ v)) ≤ openPlaces (u ++ (x ∷ v)))
+    crowded lt same le =
+        let w = fixed u ++ fixed v in
+        let (low, _) = least-missing w (omega (arith, one-less, missing-before)) in
+        let i = below-least w x lt (omega arith) in
+        omega (arith, one-less, missing-before, missing-held i)
+
   -- ---- the choice
 
   choice-spare : missing (u ++ (b ∷ v)) < openPlaces (u ++ (b ∷ v)) → choice (u ++ (b ∷ v)) ≡ 0
@@ -122,4 +134,10 @@ module _ (u v : List ℕ) (b : ℕ) (o : isOpen b ≡ true) where
     choice-keeps h = elim (decLt (missing (u ++ (b ∷ v))) (openPlaces (u ++ (b ∷ v)))) [
       | yes lt ↦ spare _ h (choice-spare lt) lt
       | no ge ↦ tight _ h (choice-tight (omega arith)) (omega arith)
+    ]
+
+    pub choice-least : (y : ℕ) → isOpen y ≡ false → y < choice (u ++ (b ∷ v)) → ¬ (missing (u ++ (y ∷ v)) ≤ openPlaces (u ++ (y ∷ v)))
+    choice-least y h lt = elim (decLt (missing (u ++ (b ∷ v))) (openPlaces (u ++ (b ∷ v)))) [
+      | yes l ↦ absurd (omega (arith, choice-spare l))
+      | no ge ↦ crowded y h (omega (arith, choice-tight (omega arith))) (omega arith)
     ]

@@ -1,22 +1,25 @@
 -- The examples of specs/Examples.antt. Assumes nothing.
-use mathlib.Core.List.{[], _∷_}
-use mathlib.Core.Path.{refl, ap}
-use native.Mathlib.Omega.{arith}
-use Rattle.weak_orders.specs.Converted.{answered}
+use mathlib.Core.Path.{refl}
 use Rattle.filling.specs.Answers.{judgedPattern, fillAnswer}
+use Rattle.filling.specs.Earliest.{earliest}
 use Rattle.filling.specs.Examples.{service, patterns, Examples}
-use Rattle.filling.specs.Pattern.{isPattern, fillable, openPlaces}
-use Rattle.filling.proofs.Laws.{filled-laws}
+use Rattle.filling.specs.Pattern.{fillable}
+use Rattle.filling.proofs.Laws.{earliest-laws}
 
 pub examples : Examples
-unfolding judgedPattern fillAnswer answered isPattern fillable openPlaces patterns
+unfolding judgedPattern fillAnswer earliest fillable patterns
 examples = record {
   service-accepted = refl;
-  service-filled = filled-laws .fills 5 service (omega arith) refl refl;
+  service-first = earliest-laws .first 5 service refl;
+  service-filled = refl;
+  zeros-first = refl;
+  between = refl;
+  to-spare = refl;
+  alone = refl;
   all-open = refl;
   zero-missing = refl;
   two-missing = refl;
-  whole = ap (λ w. answered (judgedPattern 3 (2 ∷ 0 ∷ 1 ∷ [])) w) (filled-laws .itself 3 (2 ∷ 0 ∷ 1 ∷ []) refl (refl, refl));
+  whole = refl;
   gap = refl;
   byte-n = refl;
   byte-254 = refl;

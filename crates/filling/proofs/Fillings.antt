@@ -1,42 +1,30 @@
--- A pattern with room for its missing heights is filled from the left. Assumes nothing.
+-- A pattern with room for its missing heights has a filling, and filling it from the left keeps the first one. Assumes nothing.
 use mathlib.Core.Bool.{true, false}
 use mathlib.Core.List.{List, [], _∷_, _++_, append-nil, Memᴰ·append-left, Memᴰ·append-right, List·Memᴰ·append-cases}
-use mathlib.Core.Logic.{inl, inr, ⊎-elim}
-use mathlib.Core.Path.{_≡_, refl, ap}
+use mathlib.Core.Logic.{inr, ⊎-elim}
+use mathlib.Core.Path.{_≡_, ap}
 use Prim.Native.Nat.{ℕ, _≤_, _<_}
 use native.Mathlib.Omega.{arith}
 use lib.ListN.{length-append}
 use lib.Seq.{append-snoc}
 use borrow.Author.Tests.{ne-eqb}
-use Rattle.weak_orders.specs.Window.{isHeight, different, bound}
+use Rattle.weak_orders.specs.Window.{different, bound}
 use Rattle.weak_orders.proofs.HeightForm.{form-height}
 use Rattle.weak_orders.proofs.Symbols.{bound-le, different≤bound}
 use Rattle.weak_orders.proofs.Tests.{there, split-mem, by-test, bit}
-use Rattle.filling.specs.Pattern.{isOpen, isPattern, agrees, Filling, fixed, openPlaces, missing}
-use Rattle.filling.specs.Filled.{choice, heightFor, filledFrom}
-use Rattle.filling.proofs.Patterns.{open-nil, open-cons, open-append, fixed-whole, says-pattern, fixed-below, says-agrees, no-shorter}
-use Rattle.filling.proofs.Patterns.{agrees-nil}
-use Rattle.filling.proofs.Choices.{choice-bound, choice-keeps}
+use Rattle.rotations.proofs.Orders.{lex-refl}
+use Rattle.ranking.specs.Numbering.{HeightWindow}
+use Rattle.filling.specs.Choice.{choice, heightFor}
+use Rattle.filling.specs.Earliest.{earliest, IsFirst}
+use Rattle.filling.specs.Pattern.{isOpen, isPattern, Filling, fillable, fixed, openPlaces, missing}
+use Rattle.filling.proofs.Choices.{choice-bound, choice-keeps, choice-least}
+use Rattle.filling.proofs.Firsts.{filling-fillable, earliest-first, earliest-only, agrees-itself, agrees-only, first-kept}
+use Rattle.filling.proofs.Patterns.{open-nil, open-cons, open-append, fixed-whole, says-pattern, fixed-below, room}
 
 -- a pattern with at least as many open places as missing heights
 pub record HasRoom (n : ℕ) (p : List ℕ) : Type 0 where
   pub pattern : isPattern n p ≡ true
   pub enough : missing p ≤ openPlaces p
-
--- ---- what agrees
-
-agrees-itself : (p : List ℕ) → agrees p p ≡ true
-agrees-itself [] = agrees-nil
-agrees-itself (b ∷ p) = says-agrees b p b p .of (inr refl, agrees-itself p)
-
--- what agrees with a height in a place agrees with an open place there
-agrees-opened : (u v w : List ℕ) (b x : ℕ) → isOpen b ≡ true → agrees (u ++ (x ∷ v)) w ≡ true → agrees (u ++ (b ∷ v)) w ≡ true
-agrees-opened [] v [] b x o t = no-shorter x v t
-agrees-opened [] v (y ∷ w) b x o t = says-agrees b v y w .of (inl o, says-agrees x v y w .to t .1)
-agrees-opened (c ∷ u) v [] b x o t = no-shorter c (u ++ (x ∷ v)) t
-agrees-opened (c ∷ u) v (y ∷ w) b x o t =
-    let (first, rest) = says-agrees c (u ++ (x ∷ v)) y w .to t in
-    says-agrees c (u ++ (b ∷ v)) y w .of (first, agrees-opened u v w b x o rest)
 
 -- ---- one place
 
@@ -73,48 +61,69 @@ module _ (n : ℕ) (few : n ≤ 16) (u v : List ℕ) (b : ℕ) (R : HasRoom n (u
     length-append u (b ∷ v),
   )
 
+  choice-held : isOpen b ≡ true → isOpen (choice (u ++ (b ∷ v))) ≡ false
+  choice-held o = below-open n (choice (u ++ (b ∷ v))) few (choice-low o)
+
   -- a place is open no longer,
   pub closed : isOpen (heightFor (u ++ (b ∷ v)) b) ≡ false
-  closed = by-test (isOpen b)
-      (λ o. rw (height-open o) (below-open n (choice (u ++ (b ∷ v))) few (choice-low o)))
-      (λ h. rw (height-held h) h)
+  closed = by-test (isOpen b) (λ o. rw (height-open o) (choice-held o)) (λ h. rw (height-held h) h)
 
   -- there is room still,
   pub room-kept : HasRoom n (u ++ (heightFor (u ++ (b ∷ v)) b ∷ v))
   room-kept = by-test (isOpen b)
-      (λ o.
-      let lt = choice-low o in
-      let h = below-open n (choice (u ++ (b ∷ v))) few lt in
-      rw (height-open o)
-      (record { pattern = pattern-with n u v b (choice (u ++ (b ∷ v))) (R .pattern) lt; enough = choice-keeps u v b o (R .enough) h }))
+      (λ o. rw (height-open o) (record {
+        pattern = pattern-with n u v b (choice (u ++ (b ∷ v))) (R .pattern) (choice-low o);
+        enough = choice-keeps u v b o (R .enough) (choice-held o);
+      }))
       (λ h. rw (height-held h) R)
 
-  -- and what agrees then agreed before
-  pub agreed : (w : List ℕ) → agrees (u ++ (heightFor (u ++ (b ∷ v)) b ∷ v)) w ≡ true → agrees (u ++ (b ∷ v)) w ≡ true
-  agreed w t = by-test (isOpen b)
-      (λ o. agrees-opened u v w b (heightFor (u ++ (b ∷ v)) b) o t)
-      (λ h. rw (height-held h) at t)
+  -- and the first filling is that of the pattern, once there is one
+  module _ (e : openPlaces u ≡ 0) where
+    no-smaller : isOpen b ≡ true → (y : ℕ) → y < choice (u ++ (b ∷ v)) → (w : List ℕ) → ¬ Filling n (u ++ (y ∷ v)) w
+    no-smaller o y lt w f =
+        choice-least u v b o (R .enough) y (below-open n y few (omega (arith, choice-low o))) lt (room n (u ++ (y ∷ v)) w f)
+
+    first-then : (w : List ℕ) → IsFirst n (u ++ (heightFor (u ++ (b ∷ v)) b ∷ v)) w → IsFirst n (u ++ (b ∷ v)) w
+    first-then w F = by-test (isOpen b)
+        (λ o. first-kept n u v b (choice (u ++ (b ∷ v))) e o (choice-held o) (no-smaller o) w (rw (height-open o) at F))
+        (λ h. rw (height-held h) at F)
 
 -- ---- all places
 
+-- no open place: the pattern itself
+pub first-whole : (n : ℕ) (u : List ℕ) → openPlaces u ≡ 0 → HeightWindow n u → IsFirst n u u
+first-whole n u e h = record {
+  filling = record { weak-order = h; agreeing = agrees-itself u };
+  first = λ v f. rw (agrees-only u v e (f .agreeing)) (lex-refl u);
+}
+
+-- where there is room for the missing heights, none is missing then
+pub room-whole : (n : ℕ) (u : List ℕ) → openPlaces u ≡ 0 → HasRoom n u → HeightWindow n u
+unfolding missing
+room-whole n u e R =
+    let all = fixed-whole u e in
+    (says-pattern n u .to (R .pattern) .0, form-height u (omega (arith, R .enough, ap bound all, ap different all, different≤bound u)))
+
+pub open-behind : (u : List ℕ) (x : ℕ) → openPlaces u ≡ 0 → isOpen x ≡ false → openPlaces (u ++ (x ∷ [])) ≡ 0
+open-behind u x e h =
+    let none : bit (isOpen x) ≡ 0 = rw h in
+    omega (arith, open-append u (x ∷ []), open-cons x [], open-nil)
+
 module _ (n : ℕ) (few : n ≤ 16) where
-  -- no open place: the pattern itself
-  filled-whole : (u : List ℕ) → openPlaces u ≡ 0 → HasRoom n u → Filling n u u
-  unfolding missing
-  filled-whole u e R =
-      let all = fixed-whole u e in
-      let form : isHeight u ≡ true = form-height u (omega (arith, R .enough, ap bound all, ap different all, different≤bound u)) in
-      record { weak-order = (says-pattern n u .to (R .pattern) .0, form); agreeing = agrees-itself u }
-
-  open-behind : (u : List ℕ) (x : ℕ) → openPlaces u ≡ 0 → isOpen x ≡ false → openPlaces (u ++ (x ∷ [])) ≡ 0
-  open-behind u x e h =
-      let none : bit (isOpen x) ≡ 0 = rw h in
-      omega (arith, open-append u (x ∷ []), open-cons x [], open-nil)
-
-  pub filled-fills : (v u : List ℕ) → openPlaces u ≡ 0 → HasRoom n (u ++ v) → Filling n (u ++ v) (filledFrom u v)
-  unfolding filledFrom
-  filled-fills [] u e R = rw append-nil (filled-whole u e (rw append-nil at R))
-  filled-fills (b ∷ v) u e R =
+  room-first : (v u : List ℕ) → openPlaces u ≡ 0 → HasRoom n (u ++ v) → (w : List ℕ) × IsFirst n (u ++ v) w
+  room-first [] u e R = (u, rw append-nil (first-whole n u e (room-whole n u e (rw append-nil at R))))
+  room-first (b ∷ v) u e R =
       let x = heightFor (u ++ (b ∷ v)) b in
-      let next = filled-fills v (u ++ (x ∷ [])) (open-behind u x e (closed n few u v b R)) (rw append-snoc (room-kept n few u v b R)) in
-      record { weak-order = next .weak-order; agreeing = agreed n few u v b R (filledFrom (u ++ (x ∷ [])) v) (rw append-snoc at (next .agreeing)) }
+      let (w, F) = room-first v (u ++ (x ∷ [])) (open-behind u x e (closed n few u v b R)) (rw append-snoc (room-kept n few u v b R)) in
+      (w, first-then n few u v b R e w (rw append-snoc at F))
+
+  pub room-fillable : (p : List ℕ) → HasRoom n p → fillable n p ≡ true
+  room-fillable p R = let (w, F) = room-first p [] open-nil R in filling-fillable n p w (F .filling)
+
+  -- so the earliest filling is kept, place by place
+  pub earliest-kept : (u v : List ℕ) (b : ℕ) → openPlaces u ≡ 0 → HasRoom n (u ++ (b ∷ v)) →
+      earliest n (u ++ (heightFor (u ++ (b ∷ v)) b ∷ v)) ≡ earliest n (u ++ (b ∷ v))
+  earliest-kept u v b e R =
+      let q = u ++ (heightFor (u ++ (b ∷ v)) b ∷ v) in
+      earliest-only n (u ++ (b ∷ v)) (earliest n q)
+      (first-then n few u v b R e (earliest n q) (earliest-first n q (room-fillable q (room-kept n few u v b R))))

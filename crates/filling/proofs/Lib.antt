@@ -1,5 +1,6 @@
 pub mod Patterns
 pub mod Choices
+pub mod Firsts
 pub mod Fillings
 pub mod Laws
 pub mod Examples

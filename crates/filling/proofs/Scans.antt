@@ -19,8 +19,8 @@ use Rattle.weak_orders.proofs.Symbols.{says-occurs, in-occurs, height-step, hei
 use Rattle.weak_orders.proofs.Tallies.{tally-num, tally-larger}
 use Rattle.weak_orders.proofs.Tests.{by-test, false→not-true, says-as, same-test}
 use Rattle.ranking.proofs.Listing.{in-select, of-select}
+use Rattle.filling.specs.Choice.{leastMissing}
 use Rattle.filling.specs.Pattern.{isOpen, isAllowed, isPattern, fixed, openPlaces, missing}
-use Rattle.filling.specs.Filled.{leastMissing}
 use Rattle.filling.proofs.Patterns.{says-pattern, fixed-below}
 use Rattle.filling.proofs.Choices.{least-at}
 

@@ -1,4 +1,4 @@
--- Patterns and their verdicts, computed by the definitions (document 02, Paper 1).
+-- Patterns, their verdicts and their earliest fillings, computed by the definitions (document 02, Papers 1 and 8).
 use mathlib.Core.Bool.{cond, not}
 use mathlib.Core.List.{List, [], _∷_, map}
 use mathlib.Core.Path.{_≡_}
@@ -10,8 +10,8 @@ use Rattle.refusals.specs.declared.Verdict.the-variants.{Accepted, Refused}
 use Rattle.weak_orders.specs.Window.{count}
 use Rattle.ranking.specs.Dictionary.{strings}
 use Rattle.filling.specs.Answers.{judgedPattern, fillAnswer}
-use Rattle.filling.specs.Filled.{filled}
-use Rattle.filling.specs.Pattern.{Filling, fillable}
+use Rattle.filling.specs.Earliest.{earliest, IsFirst}
+use Rattle.filling.specs.Pattern.{fillable}
 
 -- all patterns of n
 unfoldable pub patterns : ℕ → List (List ℕ)
@@ -25,7 +25,15 @@ service = 255 ∷ 255 ∷ 0 ∷ 255 ∷ 0 ∷ []
 pub record Examples : Type 0 where
   pub service-accepted : judgedPattern 5 service ≡ Accepted
   -- the laws at work: nothing in them is vacuous
-  pub service-filled : Filling 5 service (filled 5 service)
+  pub service-first : IsFirst 5 service (earliest 5 service)
+  -- nothing is missing: the open places get 0
+  pub service-filled : earliest 5 service ≡ 0 ∷ 0 ∷ 0 ∷ 0 ∷ 0 ∷ []
+  -- 0 while there is room for the missing heights behind, and then those from the least on
+  pub zeros-first : earliest 4 (255 ∷ 255 ∷ 255 ∷ 2 ∷ []) ≡ 0 ∷ 0 ∷ 1 ∷ 2 ∷ []
+  pub between : earliest 5 (255 ∷ 0 ∷ 255 ∷ 3 ∷ 255 ∷ []) ≡ 0 ∷ 0 ∷ 1 ∷ 3 ∷ 2 ∷ []
+  -- 0 is missing, and there is a place to spare
+  pub to-spare : earliest 3 (255 ∷ 255 ∷ 1 ∷ []) ≡ 0 ∷ 0 ∷ 1 ∷ []
+  pub alone : earliest 1 (255 ∷ []) ≡ 0 ∷ []
   pub all-open : judgedPattern 3 (255 ∷ 255 ∷ 255 ∷ []) ≡ Accepted
   -- 0 itself may be missing
   pub zero-missing : judgedPattern 3 (1 ∷ 255 ∷ 1 ∷ []) ≡ Accepted

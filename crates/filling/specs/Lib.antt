@@ -1,5 +1,6 @@
 pub mod Pattern
-pub mod Filled
+pub mod Earliest
+pub mod Choice
 pub mod Answers
 pub mod Claims
 pub mod Examples

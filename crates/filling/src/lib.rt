@@ -1,5 +1,6 @@
-// Patterns of a window in height form, with open places, and a weak order that agrees with one (document 02, Paper 1).
-// Rests on weak_orders, and on ranking for the list of all weak orders in the definitions. Knows no rule and no session.
+// Patterns of a window in height form, with open places, and the first weak order that agrees with one (document 02, Papers 1 and 8).
+// Rests on weak_orders, and in the definitions on ranking for the list of all weak orders and on rotations for dictionary order. Knows no rule
+// and no session.
 // A pattern is an array of 16 by value with n beside, as a window is; the bytes past n are not looked at.
 ghost use mathlib.Core.Bool.{true};
 ghost use mathlib.Core.Path.{_≡_};
@@ -8,7 +9,8 @@ ghost use lib.Dec.{leb};
 ghost use lib.ListN.{getD, take};
 ghost use Rattle.weak_orders.specs.Window.{bound, padded};
 ghost use Rattle.filling.specs.Answers.{judgedPattern, fillAnswer};
-ghost use Rattle.filling.specs.Filled.{leastMissing, choice, heightFor, filled};
+ghost use Rattle.filling.specs.Choice.{leastMissing, choice, heightFor};
+ghost use Rattle.filling.specs.Earliest.{earliest};
 ghost use Rattle.filling.specs.Pattern.{isAllowed, isPattern, fillable, fixed, openPlaces, missing, ByTable};
 use refusals::Cause;
 use refusals::Verdict;
@@ -120,9 +122,9 @@ fn height_for(p: [u8; 16], n: usize, i: usize) -> u8
 }
 
 // The open places filled from the left, in w. The bytes of w past n are the pattern's; v has zeros there.
-fn filled(p: [u8; 16], n: usize) -> [u8; 16]
+fn earliest(p: [u8; 16], n: usize) -> [u8; 16]
     requires { ⌜ (n ≤ 16) × (isPattern n (take n p) ≡ true) × (fillable n (take n p) ≡ true) ⌝ }
-    ensures { λ r. ⌜ r ≡ padded (filled n (take n p)) ⌝ }
+    ensures { λ r. ⌜ r ≡ padded (earliest n (take n p)) ⌝ }
 {
     let mut w = p;
     let mut v = [0u8; 16];
@@ -152,14 +154,14 @@ fn judge(p: [u8; 16], n: usize) -> Verdict
     Verdict::Accepted
 }
 
-// A weak order of n in height form that agrees with the first n bytes of the pattern wherever they are not open.
+// The first weak order of n in height form, in dictionary order, that agrees with the first n bytes of the pattern wherever they are not open.
 pub fn fill(pattern: [u8; 16], n: usize) -> WindowAnswer
     ensures { λ r. ⌜ r ≡ fillAnswer n (take n pattern) ⌝ }
 {
     let verdict = judge(pattern, n);
     match verdict {
         Verdict::Accepted => {
-            let w = filled(pattern, n);
+            let w = earliest(pattern, n);
             WindowAnswer {
                 verdict: verdict,
                 window: w,

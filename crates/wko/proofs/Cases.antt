@@ -22,7 +22,7 @@ use Rattle.ranking.specs.Answers.{placed, numberBy, judgedPlace, located}
 use Rattle.ranking.specs.Dictionary.{place, windowAt}
 use Rattle.ranking.proofs.Answered.{place-length}
 use Rattle.filling.specs.Answers.{judgedPattern, fillAnswer}
-use Rattle.filling.specs.Filled.{filled}
+use Rattle.filling.specs.Earliest.{earliest}
 use Rattle.filling.specs.Pattern.{isPattern}
 use Rattle.filling.proofs.Verdicts.{accepted-pattern}
 use Rattle.successors.specs.NextSymbol.{nextSymbol, symbolBy}
@@ -129,4 +129,4 @@ located-most n k e = place-long (sym (answered-verdict (judgedPlace n k) (window
 
 pub fill-most : (n : ℕ) (p : List ℕ) → fillAnswer n p .verdict ≡ Accepted → n ≤ 16
 unfolding fillAnswer
-fill-most n p e = accepted-pattern n p (sym (answered-verdict _ (filled n p)) ∙ e) .0
+fill-most n p e = accepted-pattern n p (sym (answered-verdict _ (earliest n p)) ∙ e) .0

@@ -233,7 +233,7 @@ pub extern "C" fn wko_count(n: u64, out: &mut [u8]) -> u32
     give_number(ranking::count(n as usize), out)
 }
 
-// A weak order for a pattern of n. One of another length is refused before it is loaded, since `load` would leave all its places open.
+// The first weak order for a pattern of n. One of another length is refused before it is loaded, since `load` would leave all its places open.
 fn filling_of(pattern: &[u8], n: usize) -> WindowAnswer
     ensures { λ r. ⌜ r ≡ fillAnswer n (now (pattern .entry)) ⌝ }
 {
@@ -246,7 +246,7 @@ fn filling_of(pattern: &[u8], n: usize) -> WindowAnswer
     filling::fill(weak_orders::load(pattern, n), n)
 }
 
-// A weak order of n in height form that agrees with a pattern.
+// The first weak order of n in height form, in dictionary order, that agrees with a pattern.
 #[no_mangle]
 pub extern "C" fn wko_fill(n: u64, pattern: &[u8], out: &mut [u8]) -> u32
     ensures { λ r. ⌜ (r, now (out .exit)) ≡ fillCall n (now (pattern .entry)) (now (out .entry)) ⌝ }

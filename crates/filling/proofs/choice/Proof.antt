@@ -4,7 +4,7 @@ use native.Mathlib.Omega.{arith}
 use lib.ListN.{getD, take}
 use borrow.Author.Needs.{needs}
 use borrow.Author.Tests.{lt-ltb, le-ltb}
-use Rattle.filling.specs.Filled.{choice}
+use Rattle.filling.specs.Choice.{choice}
 use Rattle.filling.specs.Pattern.{openPlaces, missing}
 use Rattle.filling.proofs.Scans.{table-open}
 use Rattle.filling.proofs.choice.Statement.{statement}

@@ -20,8 +20,8 @@ passed : (c : tie.After-enum-told) →
     judgedPattern (a .n) (take (a .n) (a .pattern)) ≡ Accepted
 passed c = sym (c .before .before .judge .ensures) ∙ c .enum-told .given .1
 
-filled-requires : tie.Need-filled-requires
-filled-requires c κs = accepted-pattern _ _ (passed c)
+earliest-requires : tie.Need-earliest-requires
+earliest-requires c κs = accepted-pattern _ _ (passed c)
 
 enum-known-verdict : tie.Need-enum-known-verdict
 enum-known-verdict c = search needs
@@ -31,7 +31,7 @@ refused-requires c κs = search needs
 
 returns : tie.Need-returns
 unfolding fillAnswer answered
-returns c = rw (passed (c .before), c .before .enum-told .given .1, c .filled .ensures)
+returns c = rw (passed (c .before), c .before .enum-told .given .1, c .earliest .ensures)
 
 returns-2 : tie.Need-returns-2
 unfolding fillAnswer answered
@@ -45,7 +45,7 @@ fill-spec =
     (tie.spec
     judge-requires
     enum-told
-    filled-requires
+    earliest-requires
     enum-known-verdict
     refused-requires
     returns

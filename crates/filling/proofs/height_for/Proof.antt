@@ -2,7 +2,7 @@
 use lib.ListN.{getD}
 use borrow.Author.Needs.{needs}
 use borrow.Author.Tests.{eq-eqb, ne-eqb}
-use Rattle.filling.specs.Filled.{heightFor}
+use Rattle.filling.specs.Choice.{heightFor}
 use Rattle.filling.proofs.height_for.Statement.{statement}
 use Rattle.filling.proofs.height_for.Tie as tie
 

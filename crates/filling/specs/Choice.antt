@@ -1,8 +1,6 @@
--- A weak order that agrees with a pattern. Which one is free (document 02, Paper 1): `filled` has no mark, so that no file but this one and
--- those below it can open it, and `FilledLaws` (Claims.antt) has all that is promised of it.
-pub mod Choice
+-- The height that is put into the first open place of a pattern (for private functions; Earliest.antt says what comes of it).
 use mathlib.Core.Bool.{not, cond}
-use mathlib.Core.List.{List, [], _∷_, _++_}
+use mathlib.Core.List.{List}
 use Prim.Native.Nat.{ℕ}
 use lib.Dec.{ltb}
 use Rattle.weak_orders.specs.Window.{firstIndex, range, occurs, bound}
@@ -22,12 +20,3 @@ choice p = cond (ltb (missing p) (openPlaces p)) 0 (leastMissing (fixed p))
 unfoldable pub heightFor : List ℕ → ℕ → ℕ
 unfolding choice
 heightFor p b = cond (isOpen b) (choice p) b
-
--- the open places of p filled from the left, behind what stands before them
-unfoldable pub filledFrom : List ℕ → List ℕ → List ℕ
-unfolding heightFor
-filledFrom done [] = done
-filledFrom done (b ∷ p) = filledFrom (done ++ (heightFor (done ++ (b ∷ p)) b ∷ [])) p
-
-pub filled : ℕ → List ℕ → List ℕ
-filled n p = filledFrom [] p

@@ -1,16 +1,14 @@
--- `filled`: the places up to i are filled. Assumes nothing.
-use mathlib.Core.Path.{_≡_, sym, ap, _∙_}
+-- `earliest`: the places up to i are filled. Assumes nothing.
+use mathlib.Core.Path.{_≡_}
 use Prim.Native.Nat.{_-_}
 use native.Mathlib.Omega.{arith}
 use lib.ListN.{length, take}
 use borrow.Author.Needs.{needs}
-use Rattle.weak_orders.specs.Window.{padded}
 use Rattle.weak_orders.proofs.Padded.{padded-nil}
-use Rattle.filling.specs.Filled.Choice.{today}
 use Rattle.filling.proofs.Laws.{fillable-room}
 use Rattle.filling.proofs.Steps.{FilledTo, filled-start, filled-next, filled-end}
-use Rattle.filling.proofs.filled.Statement.{statement}
-use Rattle.filling.proofs.filled.Tie as tie
+use Rattle.filling.proofs.earliest.Statement.{statement}
+use Rattle.filling.proofs.earliest.Tie as tie
 
 abbrev Inv-loop : tie.InvT-loop
 Inv-loop n w₀ v₀ i₀ w v i = FilledTo n w₀ w v i
@@ -47,11 +45,10 @@ loop-again c =
 returns : tie.Need-returns Inv-loop μ-loop
 returns c =
     let l = c .before in
-    let a = l .before .args in
-    filled-end _ (l .before .pre .0) _ _ _ _ (l .loop .inv) (omega arith) ∙ ap padded (sym (today (a .n) (take (a .n) (a .p))))
+    filled-end _ (l .before .pre .0) _ _ _ _ (l .loop .inv) (omega arith)
 
-pub filled-spec : {M : Type 1} → statement M
-filled-spec =
+pub earliest-spec : {M : Type 1} → statement M
+earliest-spec =
     tie.close
     (tie.spec
     Inv-loop
