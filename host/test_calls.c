@@ -401,7 +401,7 @@ static void small_patterns(void)
         CHECK(all_patterns(n) == without[n], "of the patterns of n = %d not %d are without a weak order", n, without[n]);
 }
 
-/* A weak order of n with some of its places opened, no, few, many or all. */
+/* A random weak order w of n, and p, which is w with none, some or all of its places opened. */
 static void random_pattern(int n, uint8_t *w, uint8_t *p)
 {
     uint64_t opened = random_below(5);
