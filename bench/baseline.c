@@ -190,6 +190,17 @@ uint32_t baseline_next_symbol(uint64_t n, uint64_t rule, const uint8_t *window, 
     return (uint32_t)next_symbol((int)rule, w, (int)n);
 }
 
+uint32_t baseline_previous_symbol(uint64_t n, uint64_t rule, const uint8_t *window, size_t window_len)
+{
+    uint8_t w[16];
+    uint32_t returned = refused(n, rule, window, window_len);
+    if (returned)
+        return returned;
+    w[0] = window[n - 1];
+    memcpy(w + 1, window, n - 1);
+    return (uint32_t)next_symbol(rule == 1 ? 1 : rule == 2 ? 3 : 2, w, (int)n);
+}
+
 uint32_t baseline_rotation_start(uint64_t n, uint64_t rule, const uint8_t *window, size_t window_len)
 {
     uint32_t returned = refused(n, rule, window, window_len);

@@ -13,7 +13,10 @@ void baseline_walk(int rule, uint8_t *w, int n, uint64_t steps);
 /* What wko_next_symbol answers, with the same tests. */
 uint32_t baseline_next_symbol(uint64_t n, uint64_t rule, const uint8_t *window, size_t window_len);
 
-/* The same for rule 1 alone, by the proved code's way: it looks for a repeat before every 1 first, and then often needs no search. */
+/* What wko_previous_symbol answers, with the same tests: the undoing rule on the window turned back by one. */
+uint32_t baseline_previous_symbol(uint64_t n, uint64_t rule, const uint8_t *window, size_t window_len);
+
+/* The next symbol by rule 1 alone, by the proved code's way: it looks for a repeat before every 1 first, and then often needs no search. */
 uint32_t baseline_rule1_looking(uint64_t n, uint64_t rule, const uint8_t *window, size_t window_len);
 
 /* What wko_rotation_start and wko_period answer, with the same tests, by the search in O(n). */

@@ -74,6 +74,39 @@ static void steps(int rule, int n, uint64_t count)
            1e9 * call_ours / (double)count, call_ours / call_c, differ ? "   THE ANSWERS DIFFER" : "");
 }
 
+/* So many windows back. */
+static void call_steps_back(rule_call *call, int rule, int n, uint8_t *w, uint64_t count)
+{
+    for (uint64_t k = 0; k < count; k++) {
+        uint32_t symbol = call((uint64_t)n, (uint64_t)rule, w, (size_t)n);
+        memmove(w + 1, w, (size_t)(n - 1));
+        w[0] = (uint8_t)symbol;
+    }
+}
+
+/* Steps back along the cycle, and whether as many steps lead to the start again. */
+static void steps_back(int rule, int n, uint64_t count)
+{
+    double c = 1e9, ours = 1e9;
+    uint8_t start[16], w[16], v[16];
+    unsigned differ = 0;
+    start_window(rule, n, start);
+    for (int run = 0; run < RUNS; run++) {
+        double t = now();
+        memcpy(w, start, sizeof w);
+        call_steps_back(baseline_previous_symbol, rule, n, w, count);
+        t = keep_best(&c, t);
+        memcpy(v, start, sizeof v);
+        call_steps_back(wko_previous_symbol, rule, n, v, count);
+        keep_best(&ours, t);
+        differ += memcmp(v, w, (size_t)n) != 0;
+    }
+    call_steps(wko_next_symbol, rule, n, v, count);
+    differ += memcmp(v, start, (size_t)n) != 0;
+    printf("rule %d  n = %2d   call with its tests: C %6.1f ns, wko_previous_symbol %6.1f ns (%.2f of C)%s\n", rule, n, 1e9 * c / (double)count,
+           1e9 * ours / (double)count, ours / c, differ ? "   THE ANSWERS DIFFER" : "");
+}
+
 /* Calls of rule 1 against C that goes the same way, which the paper does not: like for like. */
 static void rule1_alike(int n, uint64_t count)
 {
@@ -244,6 +277,10 @@ int main(void)
     printf("\nRule 1 again, against C that looks for a repeat before every 1 first, as the proved code does.\n");
     for (int n = 8; n <= 16; n += 4)
         rule1_alike(n, 2000000);
+    printf("\nOne step back along the cycle, as a call.\n");
+    for (int rule = 1; rule <= 3; rule++)
+        for (int n = 8; n <= 16; n += 4)
+            steps_back(rule, n, 2000000);
     printf("\nA session driven by step frames, rule 1, each frame and its answer.\n");
     frames(8, 500000);
     frames(16, 500000);

@@ -53,4 +53,5 @@ shows "host/example.c" "" <host/example.c
 runs "how to keep a sheet with its round" '{ cat docs/sample.sheet; target/bin/round <docs/sample.sheet; } >saved.txt'
 runs "how to compare two rounds" 'target/bin/round <docs/sample.sheet >saved.txt; target/bin/round <docs/picture/sheet | diff saved.txt -'
 runs "how to plot the levels" "target/bin/round <docs/picture/sheet | awk 'NR > 1 { printf \"%3d %6d %*s\\n\", \$1, \$3, (2000 - \$3) / 50, \"*\" }'"
+runs "how to line up two rounds" "target/bin/round <docs/picture/sheet | awk '\$4 == \"1,3,1\" { print \$1 }'"
 exit $status

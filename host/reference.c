@@ -203,6 +203,21 @@ void ref_step(int rule, uint8_t *w, int n)
     w[n - 1] = (uint8_t)s;
 }
 
+int ref_previous_symbol(int rule, const uint8_t *w, int n)
+{
+    int found = -1;
+    for (int x = 0; x <= n; x++) {
+        uint8_t v[16] = {(uint8_t)x};
+        memcpy(v + 1, w, (size_t)(n - 1));
+        if (!ref_in_form(rule, v, n) || ref_next_symbol(rule, v, n) != w[n - 1])
+            continue;
+        if (found >= 0)
+            return -1;
+        found = x;
+    }
+    return found;
+}
+
 int ref_next_string(uint8_t *w, int n, int most)
 {
     int i = n - 1;

@@ -12,6 +12,8 @@ void ref_heights(const uint8_t *w, int n, uint8_t *out);
 void ref_ranks(const uint8_t *w, int n, uint8_t *out);
 int ref_next_symbol(int rule, const uint8_t *w, int n);
 void ref_step(int rule, uint8_t *w, int n);
+/* Document 02, Paper 13: the oldest symbol of the only window that the rule sends to w, by trying every symbol; -1 where not just one is found. */
+int ref_previous_symbol(int rule, const uint8_t *w, int n);
 /* The next string of n symbols from 0 to `most`, in dictionary order: whether there is one; if not, w is all zeros again. */
 int ref_next_string(uint8_t *w, int n, int most);
 /* Document 02, Paper 5: where the least rotation starts, the greatest under rules 2 and 3, from 1; and how many rotations are different. */

@@ -19,6 +19,9 @@ static void nothing(void) {}
 static void next_symbol_1(void) { out[0] = (uint8_t)wko_next_symbol(16, 1, ranks, 16); }
 static void next_symbol_2(void) { out[0] = (uint8_t)wko_next_symbol(16, 2, heights, 16); }
 static void next_symbol_3(void) { out[0] = (uint8_t)wko_next_symbol(16, 3, heights, 16); }
+static void previous_symbol_1(void) { out[0] = (uint8_t)wko_previous_symbol(16, 1, ranks, 16); }
+static void previous_symbol_2(void) { out[0] = (uint8_t)wko_previous_symbol(16, 2, heights, 16); }
+static void previous_symbol_3(void) { out[0] = (uint8_t)wko_previous_symbol(16, 3, heights, 16); }
 static void rotation_start_1(void) { out[0] = (uint8_t)wko_rotation_start(16, 1, ranks, 16); }
 static void rotation_start_2(void) { out[0] = (uint8_t)wko_rotation_start(16, 2, heights, 16); }
 static void period(void) { out[0] = (uint8_t)wko_period(16, 2, heights, 16); }
@@ -93,7 +96,9 @@ int main(void)
 {
     static const struct { const char *name; void (*call)(void); } calls[] = {
         {"nothing", nothing}, {"wko_next_symbol, rule 1", next_symbol_1}, {"wko_next_symbol, rule 2", next_symbol_2},
-        {"wko_next_symbol, rule 3", next_symbol_3}, {"wko_rotation_start, rule 1", rotation_start_1}, {"wko_rotation_start, rule 2", rotation_start_2},
+        {"wko_next_symbol, rule 3", next_symbol_3}, {"wko_previous_symbol, rule 1", previous_symbol_1},
+        {"wko_previous_symbol, rule 2", previous_symbol_2}, {"wko_previous_symbol, rule 3", previous_symbol_3},
+        {"wko_rotation_start, rule 1", rotation_start_1}, {"wko_rotation_start, rule 2", rotation_start_2},
         {"wko_period", period}, {"wko_rank_to_height", rank_to_height}, {"wko_height_to_rank", height_to_rank},
         {"wko_count", count}, {"wko_place", place_of}, {"wko_window_at", window_at}, {"wko_fill", fill},
         {"wko_fresh", fresh}, {"wko_load_levels", load_levels}, {"wko_exchange", exchange}};
@@ -110,7 +115,7 @@ int main(void)
     }
     for (int i = 1; i < CALLS; i++) {
         most[i] -= most[0];
-        printf("%-26s %5zu bytes of stack\n", calls[i].name, most[i]);
+        printf("%-27s %5zu bytes of stack\n", calls[i].name, most[i]);
         CHECK(most[i] <= MOST, "%s takes more than %d bytes of stack", calls[i].name, MOST);
     }
     return report("stack");

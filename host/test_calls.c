@@ -117,6 +117,12 @@ static void check_next(uint64_t n, uint64_t rule, const uint8_t *w, size_t len)
     check_call("next symbol", wko_next_symbol, n, rule, w, len, symbol);
 }
 
+static void check_previous(uint64_t n, uint64_t rule, const uint8_t *w, size_t len)
+{
+    int symbol = good(n, rule, w, len) ? ref_previous_symbol((int)rule, w, (int)n) : 0;
+    check_call("previous symbol", wko_previous_symbol, n, rule, w, len, symbol);
+}
+
 static void check_rotation(uint64_t n, uint64_t rule, const uint8_t *w, size_t len)
 {
     int sound = good(n, rule, w, len);
@@ -126,14 +132,16 @@ static void check_rotation(uint64_t n, uint64_t rule, const uint8_t *w, size_t l
 
 static void refusals_under_a_rule(void)
 {
+    static const uint64_t rules[] = {0, 1, 2, 3, 4, 5, 8, 255, 256, 257, 258, 259, 4294967297u, UINT64_MAX};
     uint8_t w[20];
     for (int symbol = 0; symbol <= 1; symbol++) {
         memset(w, symbol, sizeof w);
         for (size_t k = 0; k < sizeof lengths / sizeof *lengths; k++)
-            for (size_t r = 0; r < sizeof lengths / sizeof *lengths; r++)
+            for (size_t r = 0; r < sizeof rules / sizeof *rules; r++)
                 for (size_t len = 0; len <= 20; len++) {
-                    check_next(lengths[k], lengths[r], w, len);
-                    check_rotation(lengths[k], lengths[r], w, len);
+                    check_next(lengths[k], rules[r], w, len);
+                    check_previous(lengths[k], rules[r], w, len);
+                    check_rotation(lengths[k], rules[r], w, len);
                 }
     }
 }
@@ -236,8 +244,8 @@ static void worked_rotations(void)
     CHECK(wko_rotation_start(4, 2, heights, 4) == 2 && wko_period(4, 3, heights, 4) == 2, "0101 starts at 2 and has 2 rotations");
 }
 
-/* Random weak orders under each rule, one in four with a symbol changed or of another length. */
-static void random_next_symbols(long rounds)
+/* Random weak orders under each rule, one in four with a symbol changed or of another length; one in five stepped back, too. */
+static void random_symbols(long rounds)
 {
     for (long k = 0; k < rounds; k++) {
         int n = 1 + (int)random_below(16), rule = 1 + (int)random_below(3);
@@ -251,7 +259,80 @@ static void random_next_symbols(long rounds)
         if (random_below(32) == 0)
             len += random_below(2) ? 1 : -1;
         check_next((uint64_t)n, (uint64_t)rule, w, len);
+        if (k % 5 == 0)
+            check_previous((uint64_t)n, (uint64_t)rule, w, len);
     }
+}
+
+/* Each window of n: the step back of its step is the symbol that was dropped, and the step of its step back is its newest. */
+static void back_and_forth(int rule, int n)
+{
+    uint64_t count = ref_count(n), r = (uint64_t)rule;
+    size_t len = (size_t)n;
+    for (uint64_t k = 0; k < count; k++) {
+        uint8_t w[16], on[16], back[16];
+        ref_window_at(n, k, w);
+        if (rule == 1)
+            to_ranks(w, n);
+        check_previous(len, r, w, len);
+        memcpy(on, w + 1, len - 1);
+        on[n - 1] = (uint8_t)wko_next_symbol(len, r, w, len);
+        CHECK(wko_previous_symbol(len, r, on, len) == w[0], "rule %d, n = %d: back from the step of window %d", rule, n, (int)k);
+        memcpy(back + 1, w, len - 1);
+        back[0] = (uint8_t)wko_previous_symbol(len, r, w, len);
+        CHECK(wko_next_symbol(len, r, back, len) == w[n - 1], "rule %d, n = %d: on from the step back of window %d", rule, n, (int)k);
+    }
+}
+
+/* Document 02, Paper 13: windows of one symbol; and two of three that rules 2 and 3 do not undo by themselves. */
+static void worked_steps_back(void)
+{
+    const uint8_t one[1] = {1}, zero[1] = {0}, w[3] = {1, 3, 2}, v[3] = {1, 0, 1}, u[3] = {1, 0, 2};
+    CHECK(wko_previous_symbol(1, 1, one, 1) == 1, "before 1 under rule 1 stands 1");
+    CHECK(wko_previous_symbol(1, 2, zero, 1) == 0 && wko_previous_symbol(1, 3, zero, 1) == 0, "before 0 under rules 2 and 3 stands 0");
+    CHECK(wko_previous_symbol(3, 1, w, 3) == 1, "rule 1 sends 113 to 132");
+    CHECK(wko_previous_symbol(3, 2, v, 3) == 0, "rule 2 sends 010 to 101");
+    CHECK(wko_previous_symbol(3, 3, u, 3) == 0, "rule 3 sends 010 to 102");
+    CHECK(wko_previous_symbol(0, 4, NULL, 0) == 256 + 6 && wko_previous_symbol(3, 4, zero, 1) == 256 + 7, "6 comes before 7, and 7 before 8");
+}
+
+enum { STARTS = 75 };
+
+/* The windows after 1 to a(n) steps from the window at a place. */
+static void list_windows(int rule, int n, uint64_t start, uint8_t list[STARTS][16])
+{
+    uint8_t w[16] = {0};
+    ref_window_at(n, start, w);
+    if (rule == 1)
+        to_ranks(w, n);
+    for (uint64_t k = 0; k < ref_count(n); k++) {
+        uint32_t symbol = wko_next_symbol((uint64_t)n, (uint64_t)rule, w, (size_t)n);
+        memmove(w, w + 1, (size_t)(n - 1));
+        w[n - 1] = (uint8_t)symbol;
+        memcpy(list[k], w, sizeof w);
+    }
+}
+
+/* Any two starts of n up to 4: one number of steps below a(n) leads from the first to the second, and the second list is the first with so many
+ * taken from its front and put at its end. A list ends with its start. */
+static void two_starts(int rule, int n)
+{
+    static uint8_t lists[STARTS][STARTS][16];
+    int count = (int)ref_count(n);
+    for (int u = 0; u < count; u++)
+        list_windows(rule, n, (uint64_t)u, lists[u]);
+    for (int u = 0; u < count; u++)
+        for (int v = 0; v < count; v++) {
+            int steps = 0, ways = 0, same = 1;
+            for (int k = 0; k < count; k++)
+                if (memcmp(lists[u][(k + count - 1) % count], lists[v][count - 1], 16) == 0) {
+                    steps = k;
+                    ways++;
+                }
+            for (int k = 0; k < count; k++)
+                same &= memcmp(lists[v][k], lists[u][(steps + k) % count], 16) == 0;
+            CHECK(ways == 1 && same && (steps == 0) == (u == v), "rule %d, n = %d: starts %d and %d, %d ways", rule, n, u, v, ways);
+        }
 }
 
 /* The whole round of n under a rule, window by window, back to the start. */
@@ -534,7 +615,14 @@ int main(void)
     for (int rule = 1; rule <= 3; rule++)
         for (int n = 1; n <= 7; n++)
             whole_round(rule, n);
-    random_next_symbols(1000000);
+    worked_steps_back();
+    for (int rule = 1; rule <= 3; rule++)
+        for (int n = 1; n <= 6; n++)
+            back_and_forth(rule, n);
+    for (int rule = 1; rule <= 3; rule++)
+        for (int n = 1; n <= 4; n++)
+            two_starts(rule, n);
+    random_symbols(1000000);
     refusals_of_places();
     for (int n = 1; n <= 6; n++)
         all_places(n);

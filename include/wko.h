@@ -17,7 +17,7 @@
 #include <stddef.h>
 #include <stdint.h>
 
-#define WKO_LIBRARY_VERSION "4.1.0"
+#define WKO_LIBRARY_VERSION "4.2.0"
 #define WKO_MAX_N 16     /* symbols of the longest window */
 #define WKO_FRAME_LEN 40 /* bytes of a frame, and of its answer */
 #define WKO_OPEN 255     /* an open place of a pattern */
@@ -87,8 +87,8 @@ extern "C" {
 #endif
 
 /*
- * Direct calls. Each returns 0 when it is done (wko_next_symbol: the symbol; wko_rotation_start and wko_period: a number up to n), or 256 +
- * the number of a refusal:
+ * Direct calls. Each returns 0 when it is done (wko_next_symbol and wko_previous_symbol: the symbol; wko_rotation_start and wko_period: a
+ * number up to n), or 256 + the number of a refusal:
  *   257 (1)   the buffer is too short
  *   262 (6)   n is not 1 to 16
  *   263 (7)   the rule is not 1, 2 or 3
@@ -105,6 +105,11 @@ extern "C" {
  * Rule 1 takes a window in rank form, rules 2 and 3 take one in height form. A round of a(n) such steps meets each weak order of n
  * once. Returns the symbol, 0 to 16, or a refusal 6, 7, 8. */
 uint32_t wko_next_symbol(uint64_t n, uint64_t rule, const uint8_t *window, size_t window_len);
+
+/* The step back: just one window of n in the rule's form is sent to this one by the rule. It is the returned symbol, and the window without its
+ * newest behind: under rule 2 the symbol before 1,0,1 is 0, since 0,1,0 is followed by 1. So wko_next_symbol and this call undo each other.
+ * Takes windows as wko_next_symbol does. Returns the symbol, 0 to 16, or a refusal 6, 7, 8. */
+uint32_t wko_previous_symbol(uint64_t n, uint64_t rule, const uint8_t *window, size_t window_len);
 
 /* Where a rotation of the window starts, counted from 1: the least rotation in dictionary order under rule 1, the greatest under rules 2 and
  * 3, and the least index where it starts at several. A ring is all rotations of one window: read round from there, two windows of n in the

@@ -19,6 +19,7 @@ use Rattle.successors.specs.NextSymbol.{steppable}
 use Rattle.successors.specs.Rules.{ruleOf, inForm, WeakOrder, isRule, step}
 use Rattle.successors.proofs.Steppable.{says-steppable}
 use Rattle.universal_cycle.specs.Round.{Tour}
+use Rattle.universal_cycle.proofs.TwoStarts.{between}
 use Rattle.universal_cycle.proofs.Rounds.{universal-cycle}
 use Rattle.refusals.specs.declared.Cause.{Cause}
 use Rattle.refusals.specs.declared.Cause.the-variants.{WindowLength, RuleNumber, NotWeakOrder, LevelSetting, SheetMalformed}
@@ -216,11 +217,12 @@ in-round j (taken x e (pos, few) r (size, form) l) v =
     rw (e, kept) (universal-cycle (x .rule) r (x .n) pos (x .start) (size, form), (says-length (x .n) .of (pos, omega arith), l))
 
 pub claims : Claims
-unfolding printedText
+unfolding printedText iter
 claims = record {
   reads = reads-as;
   prints = λ s rooms d. ap (λ t. openingText (judgedText s .verdict) ++ t) (all-printed (judgedText s) (outcome s) rooms d);
   ends = λ s rooms h m. all-done (judgedText s) (outcome s) rooms h m;
   each = λ s v. in-round (judgedText s) (outcome s) v .0;
   levels = λ s v k. let (tour, (long, ok)) = in-round (judgedText s) (outcome s) v in levels-ok _ _ _ _ long ok (tour .kept k);
+  starts = λ s t v w n r. between (in-round (judgedText s) (outcome s) v .0) _ (rw (n, r) (in-round (judgedText t) (outcome t) w .0 .kept 0));
 }

@@ -9,6 +9,7 @@ use Rattle.weak_orders.specs.Window.{iter}
 use Rattle.ranking.specs.Counts.{a}
 use Rattle.successors.specs.Rules.{ruleOf, WeakOrder, step}
 use Rattle.universal_cycle.specs.Round.{Tour}
+use Rattle.universal_cycle.specs.TwoStarts.{Between}
 use Rattle.levels.specs.Levels.{Levels}
 use Rattle.refusals.specs.declared.Verdict.the-variants.{Accepted}
 use Rattle.printing.specs.declared.Printing.{Printing}
@@ -36,3 +37,7 @@ pub record Claims : Type 0 where
   -- and in each of them two places have equal levels just if their symbols are equal, the smaller symbol the higher level
   pub levels : (s : List ℕ) → let j = judgedText s in let r = j .round in
       j .verdict ≡ Accepted → (k : ℕ) → Levels (r .rule) (r .setting) (iter (step (ruleOf (r .rule))) k (take (r .n) (r .window)))
+  -- two accepted sheets with the same n and rule print one list of windows, from two starts (document 02, Paper 13)
+  pub starts : (s t : List ℕ) → let j = judgedText s in let r = j .round in let i = judgedText t in let q = i .round in
+      j .verdict ≡ Accepted → i .verdict ≡ Accepted → r .n ≡ q .n → r .rule ≡ q .rule →
+      Between (step (ruleOf (r .rule))) (a (r .n)) (take (r .n) (r .window)) (take (q .n) (q .window))

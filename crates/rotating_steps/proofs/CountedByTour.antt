@@ -4,7 +4,6 @@ use mathlib.Core.List.{List·Memᴰ·eq-of-singleton, List·Memᴰ·not-nil}
 use mathlib.Core.Path.{_≡_, refl, sym, ap, _∙_}
 use Prim.Native.Nat.{ℕ, zero, suc, _<_}
 use native.Mathlib.Omega.{arith}
-use native.Mathlib.Decide.{decLt}
 use lib.Dec.{ltb}
 use borrow.Author.Tests.{lt-ltb, le-ltb, ltb-true}
 use Rattle.weak_orders.specs.Window.{count, range, iter}
@@ -14,6 +13,7 @@ use Rattle.ranking.proofs.Numberings.{exactly-as}
 use Rattle.ranking.proofs.Selected.{sorted-selected}
 use Rattle.ranking.proofs.Sorted.{Sorted, none, one, sorted-append}
 use Rattle.universal_cycle.specs.Round.{Tour}
+use Rattle.universal_cycle.proofs.TwoStarts.{apart, meets}
 use Rattle.rotating_steps.proofs.Counting.{Into, as-many}
 
 sorted-range : (n : ℕ) → Sorted ltb (range n)
@@ -29,34 +29,17 @@ numbers-selected g n = exactly-as
     (λ k. (λ (m, e). (of-range n m, e), λ (l, e). (in-range n k l, e)))
 
 module _ {A : Type 0} {P : A → Type 0} {f : A → A} {N : ℕ} {s : A} (t : Tour P f N s) where
-  -- Before its last step a tour meets nothing twice.
-  apart : (i j : ℕ) → i < N → j < N → iter f i s ≡ iter f j s → i ≡ j
-  unfolding iter
-  apart i j l l′ e =
-      let o = t .once (iter f (suc i) s) (t .kept (suc i)) in
-      omega (arith, o .only (suc i) (omega arith) (omega arith) refl, o .only (suc j) (omega arith) (omega arith) (ap f (sym e)))
-
-  -- And it meets everything.
-  meets : (w : A) → P w → (k : ℕ) × (k < N) × (iter f k s ≡ w)
-  unfolding iter
-  meets w p = let o = t .once w p in elim (decLt (o .when) N) [
-    | yes lt ↦ (o .when, lt, o .met)
-    | no ge ↦
-        let last : o .when ≡ N = omega (arith, o .last) in
-        (0, omega (arith, o .first), sym (t .closed) ∙ ap (λ k. iter f k s) (sym last) ∙ o .met)
-  ]
-
   pub counted-by-tour : (q : A → Bool) {M : ℕ} → Exactly M (λ w. P w × (q w ≡ true)) → count (λ k. q (iter f k s)) (range N) ≡ M
   counted-by-tour q K = as-many (numbers-selected (λ k. q (iter f k s)) N) K met found
     where
       met : Into (λ k. (k < N) × (q (iter f k s) ≡ true)) (λ w. P w × (q w ≡ true)) (λ k w. iter f k s ≡ w)
       met = record {
         has = λ k (l, e). (iter f k s, (t .kept k, e), refl);
-        own = λ k k′ w p p′ e e′. apart k k′ (p .0) (p′ .0) (e ∙ sym e′);
+        own = λ k k′ w p p′ e e′. apart t k k′ (p .0) (p′ .0) (e ∙ sym e′);
       }
 
       found : Into (λ w. P w × (q w ≡ true)) (λ k. (k < N) × (q (iter f k s) ≡ true)) (λ w k. iter f k s ≡ w)
       found = record {
-        has = λ w (p, h). let (k, l, e) = meets w p in (k, (l, ap q e ∙ h), e);
+        has = λ w (p, h). let (k, l, e) = meets t w p in (k, (l, ap q e ∙ h), e);
         own = λ w w′ k p p′ e e′. sym e ∙ e′;
       }

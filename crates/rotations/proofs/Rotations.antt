@@ -6,9 +6,9 @@ use mathlib.Core.List.{tail-eq-of-cons-eq}
 use mathlib.Core.List.{Memᴰ·map, Memᴰ·of-map, Memᴰ·cast}
 use mathlib.Core.Logic.{_↔_}
 use mathlib.Core.Path.{_≡_, refl, sym, ap, _∙_}
-use Prim.Native.Nat.{ℕ, zero, suc, _+_, _≤_, _<_}
+use Prim.Native.Nat.{ℕ, zero, suc, _+_, _-_, _≤_, _<_}
 use native.Mathlib.Omega.{arith}
-use lib.ListN.{length, take, drop, getD, length-append, take-append-drop, length-map, List·getD-map}
+use lib.ListN.{length, take, drop, getD, length-append, take-append-drop, drop-of-length-le, length-map, List·getD-map}
 use lib.Seq.{take-suc, drop-cons, take-length, drop-length, take-append-seam, drop-append-seam}
 use Rattle.weak_orders.specs.Says.{Says}
 use Rattle.weak_orders.specs.Window.{all, count, firstIndex, range, iter, num, below}
@@ -17,7 +17,7 @@ use Rattle.weak_orders.proofs.Lists.{count-append, first-index, in-range, lengt
 use Rattle.weak_orders.proofs.Symbols.{num-mem}
 use Rattle.weak_orders.proofs.Tests.{_∈_, there, nowhere, split-mem, says-as, says-itself, says-all}
 use Rattle.rotations.specs.Order.{lexLe}
-use Rattle.rotations.specs.Rotation.{rotation, rotations, isLeast, isGreatest, start, startGreatest}
+use Rattle.rotations.specs.Rotation.{rotation, turnedBack, rotations, isLeast, isGreatest, start, startGreatest}
 use Rattle.rotations.proofs.Orders.{TotalOrder, lexGe, upward, downward, least-member}
 
 -- Rotation by one.
@@ -217,12 +217,43 @@ unfolding iter turn rotation
 iter-turn zero w le = sym (append-nil w)
 iter-turn (suc i) w le = rw (iter-turn i w (omega arith)) (rw (drop-cons w i 0, take-suc w i 0) (append-assoc (drop (suc i) w) (take i w) _))
 
-pub full-turn : (w : List ℕ) → iter turn (length w) w ≡ w
+rotation-length : (w : List ℕ) → rotation w (length w) ≡ w
 unfolding rotation
-full-turn w = iter-turn (length w) w (omega arith) ∙ rw (drop-length, take-length)
+rotation-length w = rw (drop-length, take-length)
+
+pub full-turn : (w : List ℕ) → iter turn (length w) w ≡ w
+full-turn w = iter-turn (length w) w (omega arith) ∙ rotation-length w
 
 pub rotation-rotation : (w : List ℕ) (i j : ℕ) → j + i ≤ length w → rotation (rotation w i) j ≡ rotation w (j + i)
 rotation-rotation w i j le =
     let e : iter turn i w ≡ rotation w i = iter-turn i w (omega arith) in
     sym (iter-turn j (rotation w i) (omega (arith, length-rotated (turned-rotation w i)))) ∙
     rw (← e) (sym (iter-add turn j i w)) ∙ iter-turn (j + i) w le
+
+-- A turn and a turn back undo each other.
+pub turn-back : (w : List ℕ) → turn (turnedBack w) ≡ w
+unfolding turn turnedBack rotation
+turn-back [] = refl
+turn-back (x ∷ b) =
+    let e : 1 + (length (x ∷ b) - 1) ≡ length (x ∷ b) = omega arith in
+    rotation-rotation (x ∷ b) (length (x ∷ b) - 1) 1 (omega arith) ∙ ap (rotation (x ∷ b)) e ∙ rotation-length (x ∷ b)
+
+pub back-turn : (w : List ℕ) → turnedBack (turn w) ≡ w
+unfolding turn turnedBack rotation
+back-turn [] = refl
+back-turn (x ∷ b) =
+    let l = length-rotated (turned-rotation (x ∷ b) 1) in
+    let e : length (rotation (x ∷ b) 1) - 1 + 1 ≡ length (x ∷ b) = omega arith in
+    rotation-rotation (x ∷ b) 1 (length (rotation (x ∷ b) 1) - 1) (omega arith) ∙ ap (rotation (x ∷ b)) e ∙ rotation-length (x ∷ b)
+
+-- A window turned back is a rotation of it: its newest symbol, and the others behind.
+pub turned-back : (w : List ℕ) → w ⟳ turnedBack w
+unfolding turnedBack
+turned-back w = turned-rotation w (length w - 1)
+
+pub newest-front : (w : List ℕ) → 0 < length w → turnedBack w ≡ getD w (length w - 1) 0 ∷ take (length w - 1) w
+unfolding turnedBack rotation
+newest-front w lt =
+    let i = length w - 1 in
+    let past : length w ≤ suc i = omega arith in
+    ap (λ l. l ++ take i w) (drop-cons w i 0 (omega arith) ∙ ap (λ l. getD w i 0 ∷ l) (drop-of-length-le w past))

@@ -2,7 +2,7 @@
 -- "Rules 2 and 3"; document 02, Paper 5).
 use mathlib.Core.Bool.{Bool, cond, not}
 use mathlib.Core.List.{List, _++_, map}
-use Prim.Native.Nat.{ℕ, suc}
+use Prim.Native.Nat.{ℕ, suc, _-_}
 use lib.ListN.{length, take, drop}
 use Rattle.weak_orders.specs.Window.{all, count, firstIndex, range}
 use Rattle.rotations.specs.Order.{lexLe, same}
@@ -13,6 +13,11 @@ use Rattle.rotations.specs.declared.Standing.the-variants.{Behind, Great
 -- w read cyclically from its index i, counted from 0
 unfoldable pub rotation : List ℕ → ℕ → List ℕ
 rotation w i = drop i w ++ take i w
+
+-- w turned back by one: its newest symbol in front of the others
+unfoldable pub turnedBack : List ℕ → List ℕ
+unfolding rotation
+turnedBack w = rotation w (length w - 1)
 
 -- document 02's ring: all rotations of w
 unfoldable pub rotations : List ℕ → List (List ℕ)

@@ -1,4 +1,5 @@
-// The rotations of a window in dictionary order: where the least one starts and where the greatest does, and how many are different.
+// The rotations of a window: the turn back by one; where the least one in dictionary order starts, and where the greatest does; how many are
+// different.
 // Rests on weak_orders for windows, and knows no rule.
 // A window is an array of 16 by value with n beside; the symbols past n are not looked at.
 ghost use mathlib.Core.Bool.{cond};
@@ -6,8 +7,9 @@ ghost use mathlib.Core.List.{List};
 ghost use mathlib.Core.Path.{_≡_};
 ghost use Prim.Native.Nat.{ℕ, _≤_, _<_};
 ghost use lib.ListN.{length, take, getD};
+ghost use Rattle.weak_orders.specs.Window.{padded};
 ghost use Rattle.rotations.specs.Order.{compared};
-ghost use Rattle.rotations.specs.Rotation.{rotation, leastRotation, greatestRotation, ownStanding};
+ghost use Rattle.rotations.specs.Rotation.{rotation, turnedBack, leastRotation, greatestRotation, ownStanding};
 
 // Where a window of n has the k-th symbol of its rotation from index i, all counted from 0.
 fn cyclic(n: usize, i: usize, k: usize) -> usize
@@ -19,6 +21,21 @@ fn cyclic(n: usize, i: usize, k: usize) -> usize
         return j;
     }
     j - n
+}
+
+// The window turned back by one, in a new array: its newest symbol in front of the others, and zeros behind. No more than 16 symbols are looked at.
+pub fn turned_back(w: [u8; 16], n: usize) -> [u8; 16]
+    ensures { λ r. ⌜ r ≡ padded (turnedBack (take n w)) ⌝ }
+{
+    let end = weak_orders::capped(n);
+    let mut v = [0u8; 16];
+    let mut i = 0;
+    while i < end {
+        let k = cyclic(end, end - 1, i);
+        v[i] = w[k];
+        i += 1;
+    }
+    v
 }
 
 // Where one string stands beside another in dictionary order.

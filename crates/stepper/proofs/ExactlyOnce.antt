@@ -604,11 +604,11 @@ module _ (R₀ T₀ : Session) (g bufferR bufferT : List ℕ) (ordered arrived :
 -- ---- the begin frame
 
 -- a session that accepted it, where the round's copy is t
-record Left (s : Session) (g buffer : List ℕ) (t : List ℤ) : Type 0 where
-  good : Good g t
-  came : exchange s g buffer ≡ written (isSecond g) (accept (sessionAt g t (s .held) 0)) buffer
+pub record Left (s : Session) (g buffer : List ℕ) (t : List ℤ) : Type 0 where
+  pub good : Good g t
+  pub came : exchange s g buffer ≡ written (isSecond g) (accept (sessionAt g t (s .held) 0)) buffer
 
-left : (s : Session) (g buffer : List ℕ) → kindIn g ≡ letterB → accepted (exchange s g buffer .0 .reply) ≡ true →
+pub left : (s : Session) (g buffer : List ℕ) → kindIn g ≡ letterB → accepted (exchange s g buffer .0 .reply) ≡ true →
     Left s g buffer (copyAfter s g)
 unfolding copyAfter
 left s g buffer kind e = let (l, b) = begin-taken s g kind buffer e in go l b

@@ -10,3 +10,4 @@ pub mod Leaves
 pub mod RoundLevels
 pub mod Worked
 pub mod RoundNumbers
+pub mod LinedUp

@@ -52,7 +52,7 @@ unnumbered g f t e r v =
     eq-eqb (roundNumberIn f) (roundNumberIn g) (no-number f n e ∙ sym (no-number g t first))
 
 module _ (g : List ℕ) (t : List ℤ) (G : Good g t) where
-  start-order : WeakOrder (lengthIn g) (ruleIn g) (startOf g)
+  pub start-order : WeakOrder (lengthIn g) (ruleIn g) (startOf g)
   unfolding startOf
   start-order = (length-take-le (lengthIn g) (windowIn g) (omega (arith, window-long g (G .long), G .round .high)), G .round .form)
 

@@ -3,3 +3,4 @@ pub mod ExactlyOnce
 pub mod RoundLevels
 pub mod Example
 pub mod RoundNumbers
+pub mod LinedUp

@@ -12,5 +12,6 @@ pub mod RuleNumbers
 pub mod StepForm
 pub mod Steppable
 pub mod Stepped
+pub mod StepBack
 pub mod RotationsUnder
 pub mod Claims

@@ -5,6 +5,7 @@ use mathlib.Core.Logic.{_≢_}
 use mathlib.Core.Path.{_≡_}
 use Prim.Native.Nat.{ℕ, _≤_}
 use native.Mathlib.Omega.{arith}
+use native.Mathlib.Decide.{ℕ-discrete}
 use lib.Dec.{eqb}
 use lib.ListN.{length}
 use borrow.Author.Tests.{eq-eqb, ne-eqb}
@@ -47,3 +48,13 @@ form-bound rule w e v m = by-test (eqb rule 1)
 pub says-rule : (rule : ℕ) → Says (isRule rule) ((1 ≤ rule) × (rule ≤ 3))
 unfolding isRule
 says-rule rule = says-and (says-le 1 rule) (says-le rule 3)
+
+-- What holds of each of the three holds of every rule.
+pub by-rule : (P : ℕ → Type 0) → P 1 → P 2 → P 3 → (r : ℕ) → isRule r ≡ true → P r
+by-rule P p q s r t = elim (ℕ-discrete r 1) [
+  | yes e ↦ rw e p
+  | no x ↦ elim (ℕ-discrete r 2) [
+    | yes e ↦ rw e q
+    | no y ↦ let e : r ≡ 3 = omega (arith, says-rule r .to t) in rw e s
+  ]
+]

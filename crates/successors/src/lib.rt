@@ -1,6 +1,7 @@
-// The three successor rules of 002: the symbol that follows a window, and one step; and the rotation that a rule compares with.
-// Rests on weak_orders for windows, their forms and their tables of counts, on rotations for the least and the greatest one, and on refusals for
-// causes. That the steps of a rule go through every weak order once is shown in universal_cycle; this crate knows no session.
+// The three successor rules of 002: the symbol that follows a window, one step, and the step back; and the rotation that a rule compares with.
+// Rests on weak_orders for windows, their forms and their tables of counts, on rotations for the least and the greatest one and for the turn
+// back, and on refusals for causes. That the steps of a rule go through every weak order once is shown in universal_cycle; this crate knows no
+// session.
 // A window passes by value, as an array of 16 with n beside.
 mod height_rules;
 mod rank_rule;
@@ -18,6 +19,7 @@ ghost use Rattle.weak_orders.specs.Window.{isLength};
 ghost use Rattle.successors.specs.NextSymbol.{steppable, judged, nextSymbol, stepOrStay};
 ghost use Rattle.successors.specs.RotationUnder.{rotationAnswer};
 ghost use Rattle.successors.specs.Rules.{inForm, isRule};
+ghost use Rattle.successors.specs.StepBack.{undoing, previousSymbol};
 
 // The first n symbols are a weak order of n in the rule's form: ranks for rule 1, heights for the others.
 pub fn in_form(rule: u8, w: [u8; 16], n: usize) -> bool
@@ -59,12 +61,13 @@ pub fn judge(rule: u8, w: [u8; 16], n: usize) -> Verdict
     Verdict::Accepted
 }
 
-// The symbol that follows, or why there is none.
+// A symbol for an answer, or why there is none.
 pub enum Next {
     Symbol(u8),
     Refused(Cause),
 }
 
+// The symbol that follows.
 pub fn next_symbol(rule: u8, w: [u8; 16], n: usize) -> Next
     ensures { λ r. ⌜ r ≡ nextSymbol rule n (take n w) ⌝ }
 {
@@ -92,6 +95,26 @@ pub fn step(rule: u8, w: [u8; 16], n: usize) -> [u8; 16]
         Next::Symbol(s) => weak_orders::shift(w, n, s),
         Next::Refused(_) => w,
     }
+}
+
+// The rule that undoes a rule behind the same symbols. For a number that is no rule it is that number, and no rule either.
+fn undoing_rule(rule: u8) -> u8
+    ensures { λ r. ⌜ r ≡ undoing rule ⌝ }
+{
+    match rule {
+        2 => 3,
+        3 => 2,
+        _ => rule,
+    }
+}
+
+// The symbol that the step to this window dropped, or why there is none: what the undoing rule makes of the newest symbol, turned to the front.
+// A window turned back is in form just if it was before, so the test that the next symbol makes is the only one.
+pub fn previous_symbol(rule: u8, w: [u8; 16], n: usize) -> Next
+    ensures { λ r. ⌜ r ≡ previousSymbol rule n (take n w) ⌝ }
+{
+    let v = rotations::turned_back(w, n);
+    next_symbol(undoing_rule(rule), v, n)
 }
 
 // The rotation that a rule compares with, or why there is none.

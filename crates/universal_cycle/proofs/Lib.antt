@@ -5,4 +5,5 @@ pub mod Agreeing
 pub mod RotationClasses1
 pub mod RotationClasses23
 pub mod Rounds
+pub mod TwoStarts
 pub mod Examples

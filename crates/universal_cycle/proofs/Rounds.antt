@@ -1,23 +1,19 @@
 -- The universal cycle theorem: from any weak order of n in a rule's form, a(n) steps meet each once and end at the start.
 -- Assumes nothing.
 use mathlib.Core.List.{List}
-use mathlib.Core.Path.{_∙_, _≡_}
+use mathlib.Core.Path.{_∙_}
 use Prim.Native.Nat.{ℕ, suc, zero, _≤_, _<_}
 use native.Mathlib.Omega.{arith}
 use lib.ListN.{length}
-use native.Mathlib.Decide.{ℕ-discrete}
-use lib.Dec.{leb}
-use mathlib.Core.Bool.{true}
-use borrow.Author.Tests.{leb-true}
-use Rattle.weak_orders.proofs.Tests.{says-itself, says-and}
 use Rattle.rotations.proofs.Rotations.{turn}
 use Rattle.ranking.specs.Counts.{a}
 use Rattle.ranking.specs.Numbering.{Numbering}
 use Rattle.ranking.proofs.Places.{heights-numbered, ranks-numbered}
-use Rattle.successors.specs.Rules.{rule1, rule2, rule3, ruleOf, inForm, WeakOrder, isRule, step}
+use Rattle.successors.specs.Rules.{rule1, rule2, rule3, ruleOf, inForm, WeakOrder, step}
 use Rattle.successors.proofs.FirstSymbol.{change, turn-change}
+use Rattle.successors.proofs.RuleNumbers.{by-rule}
 use Rattle.successors.proofs.StepForm.{step-length, step-in-form}
-use Rattle.universal_cycle.specs.Round.{Tour, UniversalCycle, Connected}
+use Rattle.universal_cycle.specs.Round.{Tour, UniversalCycle}
 use Rattle.universal_cycle.proofs.Agreeing.{same-tour}
 use Rattle.universal_cycle.proofs.Joined.{Joined, one-cycle}
 use Rattle.universal_cycle.proofs.RotationClasses1.{joined1}
@@ -33,19 +29,6 @@ steps rule joined long L s p = same-tour
     p
     (one-cycle joined L s p)
 
--- The rules are 1, 2 and 3.
-pub by-rule : (P : ℕ → Type 0) → P 1 → P 2 → P 3 → (r : ℕ) → isRule r ≡ true → P r
-unfolding isRule
-by-rule P p q s r t =
-    let (lo, hi) = says-and (says-itself (leb 1 r)) (says-itself (leb r 3)) .to t in
-    elim (ℕ-discrete r 1) [
-      | yes e ↦ rw e p
-      | no x ↦ elim (ℕ-discrete r 2) [
-        | yes e ↦ rw e q
-        | no y ↦ let e : r ≡ 3 = omega (arith, leb-true 1 r lo, leb-true r 3 hi) in rw e s
-      ]
-    ]
-
 -- A step of a rule keeps the weak orders in its form.
 pub step-kept : (r n : ℕ) → 1 ≤ n → (w : List ℕ) → WeakOrder n r w → WeakOrder n r (step (ruleOf r) w)
 step-kept r n pos w (e, h) = (step-length (ruleOf r) w (omega arith) ∙ e, step-in-form r w (omega arith) h)
@@ -60,6 +43,3 @@ universal-cycle r t (suc m) pos = by-rule
     (steps rule2 (joined2 m) (λ w p. omega arith) (heights-numbered (suc m)))
     (steps rule3 (joined3 m) (λ w p. omega arith) (heights-numbered (suc m)))
     r t
-
-pub weak-orders-connected : Connected
-weak-orders-connected r t n pos u v p q = let o = universal-cycle r t n pos u p .once v q in (o .when, o .met)

@@ -1,2 +1,3 @@
 pub mod Round
+pub mod TwoStarts
 pub mod Examples

@@ -26,9 +26,3 @@ abbrev pub UniversalCycle : Type 0
 UniversalCycle =
     (r : ℕ) → isRule r ≡ true → (n : ℕ) → 1 ≤ n →
     (s : List ℕ) → WeakOrder n r s → Tour (WeakOrder n r) (step (ruleOf r)) (a n) s
-
--- so any two weak orders of n in the rule's form lead to each other
-abbrev pub Connected : Type 0
-Connected =
-    (r : ℕ) → isRule r ≡ true → (n : ℕ) → 1 ≤ n →
-    (u v : List ℕ) → WeakOrder n r u → WeakOrder n r v → (k : ℕ) × (iter (step (ruleOf r)) k u ≡ v)

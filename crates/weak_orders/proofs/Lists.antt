@@ -1,11 +1,11 @@
 -- Laws of lists: members, `all`, `count`, `range`, sums over a list, the first element that passes a test and the last element that fails a test. Assumes nothing.
 use mathlib.Core.Bool.{Bool, true, false, _&&_}
 use mathlib.Core.List.{List, [], _∷_, _++_, map, List·Memᴰ·head as head, List·Memᴰ·tail as tail, Memᴰ·append-left, Memᴰ·append-right}
-use mathlib.Core.List.{List·Memᴰ·append-cases, List·Memᴰ·eq-of-singleton, head-eq-of-cons-eq, tail-eq-of-cons-eq}
+use mathlib.Core.List.{List·Memᴰ·append-cases, List·Memᴰ·eq-of-singleton, head-eq-of-cons-eq, tail-eq-of-cons-eq, append-assoc, append-nil}
 use mathlib.Core.Logic.{⊎-elim}
 use mathlib.Core.Path.{_≡_, refl, sym, ap, ap₂, subst, _∙_}
 use Prim.Native.Nat.{ℕ, zero, suc, _+_, _*_, _≤_, _<_}
-use native.Mathlib.Nat.{suc-mul}
+use native.Mathlib.Nat.{add-zero, add-suc, suc-mul}
 use native.Mathlib.Numerals.{add-one}
 use native.Mathlib.Omega.{arith}
 use native.Mathlib.Decide.{decLt}
@@ -182,6 +182,20 @@ getD-range (suc n) j lt = elim (decLt j n) [
 
 pub getD-map-range : (f : ℕ → ℕ) (n j : ℕ) → j < n → getD (map f (range n)) j 0 ≡ f j
 getD-map-range f n j lt = getD-map f (range n) j (omega (arith, length-range n)) ∙ ap f (getD-range n j lt)
+
+-- a list over the numbers below m + k, in two parts
+map-back : {A B : Type 0} (g : A → B) (l : List A) (x : A) → map g (l ++ (x ∷ [])) ≡ map g l ++ (g x ∷ [])
+map-back g [] x = refl
+map-back g (y ∷ l) x = ap (λ k. g y ∷ k) (map-back g l x)
+
+pub map-range : {A : Type 0} (g : ℕ → A) (m k : ℕ) → map g (range (m + k)) ≡ map g (range m) ++ map (λ i. g (m + i)) (range k)
+unfolding range
+map-range g m zero = rw add-zero (sym (append-nil (map g (range m))))
+map-range g m (suc k) = rw add-suc (
+    map-back g (range (m + k)) (m + k)
+    ∙ ap (λ l. l ++ (g (m + k) ∷ [])) (map-range g m k)
+    ∙ append-assoc (map g (range m)) (map (λ i. g (m + i)) (range k)) (g (m + k) ∷ [])
+    ∙ ap (λ l. map g (range m) ++ l) (sym (map-back (λ i. g (m + i)) (range k) k)))
 
 pub count-range : (p : ℕ → Bool) (n : ℕ) → count p (range (suc n)) ≡ count p (range n) + bit (p n)
 unfolding range

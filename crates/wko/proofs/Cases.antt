@@ -25,9 +25,10 @@ use Rattle.filling.specs.Answers.{judgedPattern, fillAnswer}
 use Rattle.filling.specs.Earliest.{earliest}
 use Rattle.filling.specs.Pattern.{isPattern}
 use Rattle.filling.proofs.Verdicts.{accepted-pattern}
-use Rattle.successors.specs.NextSymbol.{nextSymbol, symbolBy}
+use Rattle.successors.specs.NextSymbol.{judged, nextSymbol, symbolBy}
 use Rattle.successors.specs.RotationUnder.{rotationUnder, rotationBy, rotationAnswer}
 use Rattle.successors.specs.Rules.{ruleOf}
+use Rattle.successors.specs.StepBack.{previousOf, previousSymbol}
 use Rattle.successors.proofs.Steppable.{slice-answer}
 use Rattle.wko.specs.Calls.{toldFirst, beforeRoom, withRoom}
 
@@ -100,9 +101,20 @@ unfolding fillAnswer judgedPattern isPattern judgedBy answered
 fill-other n s ne = by-test (isLength n) (λ a. rw (a, ne-eqb (length s) n ne)) (λ a. rw a)
 
 -- a rule that does not fit a byte is no rule, and neither is 0
-pub symbol-slice : (n rule : ℕ) (s : List ℕ) → nextSymbol (cond (ltb rule 256) rule 0) n (take n (loaded n s)) ≡ nextSymbol rule n s
-unfolding nextSymbol symbolBy
-symbol-slice n rule s = slice-answer (λ r v u. symbolBy v (ruleOf r u)) (λ c r q u v. refl) rule n s
+symbol-slice : (symbol : ℕ → List ℕ → ℕ) (n rule : ℕ) (s : List ℕ) →
+    let r = cond (ltb rule 256) rule 0 in
+    let u = take n (loaded n s) in
+    symbolBy (judged r n u) (symbol r u) ≡ symbolBy (judged rule n s) (symbol rule s)
+unfolding symbolBy
+symbol-slice symbol n rule s = slice-answer (λ r v u. symbolBy v (symbol r u)) (λ c r q u v. refl) rule n s
+
+pub next-slice : (n rule : ℕ) (s : List ℕ) → nextSymbol (cond (ltb rule 256) rule 0) n (take n (loaded n s)) ≡ nextSymbol rule n s
+unfolding nextSymbol
+next-slice = symbol-slice ruleOf
+
+pub previous-slice : (n rule : ℕ) (s : List ℕ) → previousSymbol (cond (ltb rule 256) rule 0) n (take n (loaded n s)) ≡ previousSymbol rule n s
+unfolding previousSymbol
+previous-slice = symbol-slice previousOf
 
 pub rotation-slice : (n rule : ℕ) (s : List ℕ) → rotationAnswer (cond (ltb rule 256) rule 0) n (take n (loaded n s)) ≡ rotationAnswer rule n s
 unfolding rotationAnswer rotationBy

@@ -1,5 +1,5 @@
--- What each direct call returns and leaves in the buffer, for every argument (document 01, "Turned down"; document 02, Papers 1
--- and 5).
+-- What each direct call returns and leaves in the buffer, for every argument (document 01, "Turned down"; document 02, Papers 1,
+-- 5 and 13).
 use mathlib.Core.Bool.{Bool, false, cond, not, _&&_}
 use mathlib.Core.List.{List, _++_}
 use Prim.Native.Nat.{ℕ}
@@ -17,6 +17,8 @@ use Rattle.ranking.specs.declared.NumberAnswer.the-variants.{Number, Refused as
 use Rattle.ranking.specs.Answers.{counted, placed, located}
 use Rattle.filling.specs.Answers.{fillAnswer}
 use Rattle.successors.specs.NextSymbol.{nextSymbol, nextNumber}
+use Rattle.successors.specs.StepBack.{previousSymbol}
+use Rattle.successors.specs.declared.Next.{Next}
 use Rattle.successors.specs.RotationUnder.{rotationAnswer}
 use Rattle.successors.specs.declared.RotationAnswer.{RotationAnswer}
 use Rattle.successors.specs.declared.RotationAnswer.the-variants.{Found, Refused as NoRotation}
@@ -70,10 +72,17 @@ abbrev pub rotationNumbers : RotationAnswer → RotationNumbers
 rotationNumbers (Found r) = record { start = r .start; period = r .period }
 rotationNumbers (NoRotation cause) = record { start = refusal cause; period = refusal cause }
 
--- the calls
+-- the calls; those for a symbol differ in the symbol alone
+unfoldable pub symbolCall : (ℕ → ℕ → List ℕ → Next) → ℕ → ℕ → List ℕ → ℕ
+symbolCall symbol n rule w = nextNumber (symbol rule n w)
+
 unfoldable pub nextSymbolCall : ℕ → ℕ → List ℕ → ℕ
-unfolding nextSymbol
-nextSymbolCall n rule w = nextNumber (nextSymbol rule n w)
+unfolding symbolCall nextSymbol
+nextSymbolCall = symbolCall nextSymbol
+
+unfoldable pub previousSymbolCall : ℕ → ℕ → List ℕ → ℕ
+unfolding symbolCall previousSymbol
+previousSymbolCall = symbolCall previousSymbol
 
 unfoldable pub rotationStartCall : ℕ → ℕ → List ℕ → ℕ
 unfolding rotationAnswer

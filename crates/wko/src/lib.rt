@@ -14,11 +14,12 @@ ghost use Rattle.refusals.specs.Numbers.{refusal};
 ghost use Rattle.refusals.specs.declared.Cause.{Cause};
 ghost use Rattle.refusals.specs.declared.Verdict.{Verdict};
 ghost use Rattle.ranking.specs.declared.NumberAnswer.{NumberAnswer};
-ghost use Rattle.successors.specs.NextSymbol.{nextNumber};
+ghost use Rattle.successors.specs.NextSymbol.{nextNumber, nextSymbol};
 ghost use Rattle.successors.specs.RotationUnder.{rotationAnswer};
+ghost use Rattle.successors.specs.StepBack.{previousSymbol};
 ghost use Rattle.weak_orders.specs.declared.WindowAnswer.{WindowAnswer};
 ghost use Rattle.wko.specs.Calls.{toldFirst, withRoom, windowGiven, numberBytes, numberGiven};
-ghost use Rattle.wko.specs.Calls.{rotationNumbers, nextSymbolCall, rotationStartCall, periodCall, rankToHeightCall, heightToRankCall, placeCall, windowAtCall, countCall, fillCall};
+ghost use Rattle.wko.specs.Calls.{rotationNumbers, symbolCall, nextSymbolCall, previousSymbolCall, rotationStartCall, periodCall, rankToHeightCall, heightToRankCall, placeCall, windowAtCall, countCall, fillCall};
 use ranking::NumberAnswer;
 use refusals::Cause;
 use refusals::Verdict;
@@ -50,13 +51,32 @@ fn answer(next: Next) -> u32
     }
 }
 
+// A symbol beside the window under a rule: the one that follows, or, `back`, the one that the step to the window dropped.
+fn symbol_beside(n: u64, rule: u64, window: &[u8], back: bool) -> u32
+    ensures { λ r. ⌜ r ≡ symbolCall (cond back previousSymbol nextSymbol) n rule (now (window .entry)) ⌝ }
+{
+    let w = weak_orders::load(window, n as usize);
+    let number = rule_number(rule);
+    if back {
+        return answer(successors::previous_symbol(number, w, n as usize));
+    }
+    answer(successors::next_symbol(number, w, n as usize))
+}
+
 // The symbol that follows the window under a rule.
 #[no_mangle]
 pub extern "C" fn wko_next_symbol(n: u64, rule: u64, window: &[u8]) -> u32
     ensures { λ r. ⌜ r ≡ nextSymbolCall n rule (now (window .entry)) ⌝ }
 {
-    let w = weak_orders::load(window, n as usize);
-    answer(successors::next_symbol(rule_number(rule), w, n as usize))
+    symbol_beside(n, rule, window, false)
+}
+
+// The step back: the oldest symbol of the only window that the rule sends to this one.
+#[no_mangle]
+pub extern "C" fn wko_previous_symbol(n: u64, rule: u64, window: &[u8]) -> u32
+    ensures { λ r. ⌜ r ≡ previousSymbolCall n rule (now (window .entry)) ⌝ }
+{
+    symbol_beside(n, rule, window, true)
 }
 
 // A rotation in numbers: where it starts, counted from 1, and the period of the window. A refusal is both of them.
