@@ -16,8 +16,9 @@ help:
 
 ## make run [SHEET=file]        prints the round of a sheet: docs/sample.sheet, or the file
 SHEET = docs/sample.sheet
+export SHEET # the shell reads it, so that a name may have spaces
 run: target/bin/round
-	@$(call watched,target/bin/round <$(SHEET))
+	@$(call watched,target/bin/round <"$$SHEET")
 
 # A program has no exit status: where it says something on standard error, the sheet is refused or the run has failed.
 define watched
@@ -80,6 +81,7 @@ $(EXAMPLES) target/host/tables: target/host/%: host/%.c $(HEADERS) $(LIB)
 ## make host-test               the host tests alone, on the library as it is built
 host-test: $(TESTS) $(MODELS) $(EXAMPLES) $(PROGRAMS) target/host/tables target/host/print_round
 	@for t in example link fill; do target/host/$$t | cmp - host/$$t.out || exit 1; done
+	@host/wrong_hosts.sh
 	@host/readme.sh
 	@host/headers.sh
 	@host/trace.sh

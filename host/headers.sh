@@ -4,8 +4,9 @@
 set -eu
 room=$(mktemp -d)
 trap 'rm -rf "$room"' EXIT
-flags="-O2 -Wall -Wextra -Wpedantic -Wconversion -Werror -Iinclude"
-printf '#include "wko_frames.h"\n#include "wko.h"\n' >"$room/headers.c" # each in the other's company, and twice
+flags="-O2 -Wall -Wextra -Wpedantic -Wconversion -Wredundant-decls -Werror -Iinclude"
+# each header in the other's company, and twice; and a setting without a table
+printf '#include "wko_frames.h"\n#include "wko.h"\nextern const struct wko_setting even;\nconst struct wko_setting even = WKO_EVEN(-1000, 100);\n' >"$room/headers.c"
 tried=
 compile() { # compile COMPILER...: the headers and the examples, one by one
   command -v "$1" >/dev/null || { echo "headers: no $1 here" && return; }

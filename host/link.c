@@ -1,15 +1,18 @@
 /*
- * A host that drives a round of three symbols under rule 1 over a link that loses questions and answers, and counts how often it meets each
- * weak order. It speaks WKO2, and its round is number 2: a step of round 1 is still in the hub, which delivers it late, inside the round; it is
- * refused and moves nothing. After six steps the host is started anew and has forgotten where it was. It keeps to what the README asks of hosts.
- * The device at the other end of the link is the library.
+ * A bench host over a link that loses and delays frames: one round of three symbols under rule 1. It keeps to what the README asks of hosts: a step
+ * counts when its own answer has come and its level is measured and logged, and until then it is sent again, whatever else comes. The link has in its
+ * script what can make a host skip a pattern, and the host crashes once. At the end the weak orders are counted in the log of what was measured, and
+ * nowhere else. The device at the other end of the link is the library; what is measured there is the level at which it stands.
  */
 #include <inttypes.h>
 #include <stdio.h>
 #include <stdlib.h>
 #include "wko_frames.h"
 
-enum { N = 3, RULE = 1, COUNT = 13, ROUND = 2, TRIES = 10 }; /* there are 13 weak orders of 3 */
+enum { N = 3, RULE = 1, ROUND = 2, COUNT = 13, SWEEPS = N - 1 + COUNT, TRIES = 10, CRASH = 8 }; /* there are 13 weak orders of 3 */
+
+static const struct wko_setting setting = WKO_EVEN(-1000, 100);
+static const uint8_t start[N] = {1, 1, 1};
 
 static void give_up(const char *why)
 {
@@ -17,138 +20,215 @@ static void give_up(const char *why)
     exit(1);
 }
 
+/* ---- the link, and the device behind it */
+
 struct link {
-    struct wko_session session; /* the device's */
-    unsigned questions, lost_questions, answers, lost_answers;
-    uint8_t stuck[WKO_FRAME_LEN]; /* a frame that the hub has not delivered yet */
+    struct wko_session session;        /* the device's */
+    uint8_t waiting[2][WKO_FRAME_LEN]; /* answers on their way to the host */
+    unsigned come, read, questions, lost_questions, answers, lost_answers;
+    const char *script; /* what becomes of the frames that are sent */
 };
 
-/* One question over the link: whether its answer came. Every third question is lost on its way, and every fourth answer. */
-static int transmit(struct link *link, const uint8_t *frame, uint8_t *answer)
+/* Of a frame that is sent, q: the question is lost; a: its answer is lost; a point: neither. In front of one of these, r: step 4 of round 1, which was
+ * stuck in the hub, comes to the device; s: so does step 4 of this round; m: a query does, which somebody else has sent. */
+static char scripted(struct link *link)
 {
-    struct wko_exchanged after;
-    if (++link->questions % 3 == 0) {
+    while (*link->script == ' ')
+        link->script++;
+    return *link->script != '\0' ? *link->script++ : '.';
+}
+
+/* The device takes a frame, and its answer is on its way. */
+static void deliver(struct link *link, const uint8_t *frame)
+{
+    struct wko_exchanged after = wko_exchange(link->session, frame, WKO_FRAME_LEN, link->waiting[link->come++], WKO_FRAME_LEN);
+    link->session = after.session;
+}
+
+/* A frame comes that the host does not wait for, and its answer goes to the host. */
+static void deliver_other(struct link *link, char which)
+{
+    uint8_t frame[WKO_FRAME_LEN];
+    wko_build_step(frame, 4);
+    if (which == 'm')
+        wko_build_query(frame);
+    wko_set_round(frame, which == 'r' ? ROUND - 1 : ROUND);
+    deliver(link, frame);
+    if (which == 'm')
+        printf("         the answer to a query comes: %" PRIu64 " steps done, level 0\n", link->session.done);
+    else
+        printf("         step 4 of round %u comes late: %s\n", frame[7], wko_refusal_text(link->waiting[0][4]));
+}
+
+/* The host sends a frame. */
+static void transmit(struct link *link, const uint8_t *frame)
+{
+    char what = scripted(link);
+    link->come = link->read = 0;
+    if (what == 'r' || what == 's' || what == 'm') {
+        deliver_other(link, what);
+        what = scripted(link);
+    }
+    link->questions++;
+    if (what == 'q') {
         link->lost_questions++;
-        return 0;
+        return;
     }
-    after = wko_exchange(link->session, frame, WKO_FRAME_LEN, answer, WKO_FRAME_LEN);
-    link->session = after.session;
-    if (++link->answers % 4 == 0) {
+    deliver(link, frame);
+    link->answers++;
+    if (what == 'a') {
         link->lost_answers++;
-        return 0;
+        link->come--;
     }
-    return 1;
 }
 
-/* The hub delivers the frame that was stuck in it. */
-static void deliver_stuck(struct link *link)
+/* The next answer that comes to the host, or 0 where none does. */
+static int receive(struct link *link, struct wko_answer *answer)
 {
-    uint8_t answer[WKO_FRAME_LEN];
-    struct wko_exchanged after = wko_exchange(link->session, link->stuck, WKO_FRAME_LEN, answer, WKO_FRAME_LEN);
-    link->session = after.session;
-    printf("step %2" PRIu64 "  of round %u, late: %s; steps done: %" PRIu64 "\n", wko_get_number(link->stuck + 8, 8), link->stuck[7],
-           wko_refusal_text(after.number), after.session.done);
+    return link->read < link->come && wko_read_answer(answer, link->waiting[link->read++], WKO_FRAME_LEN);
 }
 
-/* Whether an answer is to a frame of this round, and one that came undamaged: not 2 to 5, of which 2 and 3 are WKA1. */
-static int is_ours(const struct wko_answer *answer)
+/* ---- the log, which a crash leaves */
+
+struct log {
+    int32_t set[SWEEPS], measured[SWEEPS]; /* the level that was set, and what the analyser measured */
+    unsigned sweeps;
+};
+
+static void keep(struct log *log, int32_t set, int32_t measured)
 {
-    if (answer->version != 2)
-        return 0;
-    if (answer->refusal == 0)
-        return answer->round == ROUND;
-    return answer->refusal > WKO_RESERVED_BYTE && answer->refusal != WKO_OTHER_ROUND;
+    if (log->sweeps == SWEEPS)
+        give_up("more sweeps than a round has");
+    log->set[log->sweeps] = set;
+    log->measured[log->sweeps++] = measured;
 }
 
-/* Sends a frame, as WKO2, until it is answered: again on silence, and on an answer that is not ours. Gives how often it was sent. */
-static int ask(struct link *link, uint8_t *frame, struct wko_answer *answer)
+/* A window is the last N sweeps, so the round starts with the N - 1 newest symbols of its start window. */
+static void play_start(struct log *log)
 {
-    uint8_t bytes[WKO_FRAME_LEN];
-    wko_set_round(frame, ROUND);
-    for (int sent = 1; sent <= TRIES; sent++)
-        if (transmit(link, frame, bytes) && wko_read_answer(answer, bytes, sizeof bytes) && is_ours(answer))
-            return sent;
-    give_up("no answer");
-    return 0;
+    for (int i = 1; i < N; i++) {
+        int32_t level = wko_level(RULE, setting, start[i]);
+        keep(log, level, level);
+        printf("start    symbol %u  level %d\n", start[i], (int)level);
+    }
 }
 
-static void begin(struct link *link)
+static uint64_t steps_logged(const struct log *log)
 {
-    const struct wko_setting setting = {-1000, 100, {0}};
-    const uint8_t start[N] = {1, 1, 1};
-    uint8_t frame[WKO_FRAME_LEN];
-    struct wko_answer answer;
-    wko_build_begin(frame, N, RULE, setting, start);
-    ask(link, frame, &answer);
-    if (answer.refusal != 0)
-        give_up(wko_refusal_text(answer.refusal));
+    return log->sweeps < N ? 0 : log->sweeps - (N - 1);
 }
 
-/* The steps that the device has done, where it does not stand where this host took it to be (11). */
-static uint64_t steps_done(struct link *link)
+/* The place of the weak order that N levels have: the highest level has rank 1. */
+static uint64_t place_of(const int32_t *levels)
 {
-    uint8_t frame[WKO_FRAME_LEN];
-    struct wko_answer answer;
-    wko_build_query(frame);
-    ask(link, frame, &answer);
-    if (answer.refusal != 0)
-        give_up(wko_refusal_text(answer.refusal));
-    return answer.done;
-}
-
-/* The place of a window tells the weak orders apart. */
-static uint64_t place_of(const uint8_t *window)
-{
-    uint8_t heights[N], place[8];
-    if (WKO_REFUSED(wko_rank_to_height(N, window, N, heights, N)) || WKO_REFUSED(wko_place(N, heights, N, place, 8)))
+    uint8_t ranks[N], heights[N], place[8];
+    for (int i = 0; i < N; i++) {
+        ranks[i] = 1;
+        for (int j = 0; j < N; j++)
+            ranks[i] = (uint8_t)(ranks[i] + (levels[j] > levels[i]));
+    }
+    if (WKO_REFUSED(wko_rank_to_height(N, ranks, N, heights, N)) || WKO_REFUSED(wko_place(N, heights, N, place, 8)))
         give_up("the window is no weak order");
     return wko_get_number(place, 8);
 }
 
-/* The step behind `done`. Gives the refusal that ends the round, or 0. */
-static uint32_t step(struct link *link, uint64_t *done, unsigned *met)
+/* How many weak orders were measured just once; and whether every level was measured where it was set. */
+static unsigned met_once(const struct log *log, int *as_set)
+{
+    unsigned met[COUNT] = {0}, once = 0;
+    *as_set = 1;
+    for (unsigned i = 0; i < log->sweeps; i++)
+        *as_set &= log->measured[i] == log->set[i];
+    for (unsigned i = 0; i + N <= log->sweeps; i++)
+        met[place_of(log->measured + i)]++;
+    for (int i = 0; i < COUNT; i++)
+        once += met[i] == 1;
+    return once;
+}
+
+/* ---- the host */
+
+static void begin(struct link *link)
 {
     uint8_t frame[WKO_FRAME_LEN];
     struct wko_answer answer;
-    int sent;
-    wko_build_step(frame, *done + 1);
-    sent = ask(link, frame, &answer);
-    if (answer.refusal == WKO_STEP_NUMBER) {
-        printf("step %2" PRIu64 "  %s\n", *done + 1, wko_refusal_text(answer.refusal));
-        *done = steps_done(link);
-        return 0;
+    wko_build_begin(frame, N, RULE, setting, start);
+    wko_set_round(frame, ROUND);
+    for (int sent = 1; sent <= TRIES; sent++) {
+        transmit(link, frame);
+        while (receive(link, &answer))
+            if (answer.refusal == 0 && answer.round == ROUND && answer.done == 0)
+                return;
     }
-    if (answer.refusal != 0)
-        return answer.refusal;
-    if (answer.done != *done + 1)
-        return 0; /* a late answer to another frame */
-    *done = answer.done;
-    met[place_of(answer.window)]++;
-    printf("step %2" PRIu64 "  symbol %u  level %d  window %u,%u,%u  sent %d\n", answer.done, answer.symbol, (int)answer.level, answer.window[0],
-           answer.window[1], answer.window[2], sent);
+    give_up("the begin frame stays unanswered");
+}
+
+/* Sends step k until its own answer has come, and passes over whatever else comes. Gives how often it was sent. */
+static int take_step(struct link *link, uint64_t k, struct wko_answer *answer)
+{
+    uint8_t frame[WKO_FRAME_LEN];
+    wko_build_step(frame, k);
+    wko_set_round(frame, ROUND);
+    for (int sent = 1; sent <= TRIES; sent++) {
+        transmit(link, frame);
+        while (receive(link, answer))
+            if (wko_is_step_answer(answer, N, RULE, setting, ROUND, k))
+                return sent;
+    }
+    give_up("a step stays unanswered: the round must be begun anew, with a new number");
     return 0;
+}
+
+/* Asks by a query, at the end of the round, whether the device is still in it. */
+static void confirm_end(struct link *link)
+{
+    uint8_t frame[WKO_FRAME_LEN];
+    struct wko_answer answer;
+    wko_build_query(frame);
+    wko_set_round(frame, ROUND);
+    for (int sent = 1; sent <= TRIES; sent++) {
+        transmit(link, frame);
+        while (receive(link, &answer))
+            if (answer.refusal == 0 && answer.round == ROUND && answer.done == COUNT && answer.symbol == 0) {
+                printf("query    %" PRIu64 " steps done: the device is still in the round\n", answer.done);
+                return;
+            }
+    }
+    give_up("the device has left the round: it must be begun anew, with a new number");
+}
+
+/* The analyser measures the tone. */
+static int32_t measure(const struct link *link)
+{
+    return wko_level(link->session.rule, link->session.setting, link->session.window[N - 1]);
 }
 
 int main(void)
 {
-    struct link link = {wko_fresh(), 0, 0, 0, 0, {0}};
-    unsigned met[COUNT] = {0}, once = 0;
-    uint64_t done = 0;
-    uint32_t refusal = 0;
-    wko_build_step(link.stuck, 4);
-    wko_set_round(link.stuck, ROUND - 1);
+    struct link link = {wko_fresh(), {{0}}, 0, 0, 0, 0, 0, 0, "a. . q. aq. r. qa. as. . . . am. qa. aa. ."};
+    struct log log = {{0}, {0}, 0};
+    struct wko_answer answer;
+    uint64_t done = 0; /* steps that count */
+    int crashed = 0, as_set;
+    unsigned once;
     begin(&link);
-    for (int k = 1; refusal == 0; k++) {
-        if (k == 4)
-            deliver_stuck(&link);
-        refusal = step(&link, &done, met);
-        if (k == 6)
-            done = 0; /* started anew */
+    play_start(&log);
+    while (done < COUNT) {
+        int sent = take_step(&link, done + 1, &answer);
+        if (done + 1 == CRASH && !crashed) {
+            printf("step %2d  the host crashes before it has measured, and starts again\n", CRASH);
+            crashed = 1;
+            done = steps_logged(&log);
+            continue;
+        }
+        keep(&log, answer.level, measure(&link));
+        done++;
+        printf("step %2" PRIu64 "  symbol %u  level %d  window %u,%u,%u  sent %d\n", done, answer.symbol, (int)answer.level, answer.window[0],
+               answer.window[1], answer.window[2], sent);
     }
-    for (int i = 0; i < COUNT; i++)
-        once += met[i] == 1;
-    printf("step %2" PRIu64 "  %s\n", done + 1, wko_refusal_text(refusal));
-    printf("%u of %d weak orders met once; lost: %u of %u questions, %u of %u answers\n", once, COUNT, link.lost_questions, link.questions,
-           link.lost_answers, link.answers);
-    return refusal != WKO_ROUND_FINISHED || once != COUNT;
+    confirm_end(&link);
+    once = met_once(&log, &as_set);
+    printf("%u of %d weak orders met once%s; lost: %u of %u questions, %u of %u answers\n", once, COUNT, as_set ? "" : ", not all at their level",
+           link.lost_questions, link.questions, link.lost_answers, link.answers);
+    return once != COUNT || !as_set;
 }

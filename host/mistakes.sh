@@ -19,6 +19,9 @@ $1" ] || { echo "$3: not refused with $1" && status=1; }
   [ "round: $2" = "$(cat $said)" ] || { echo "$3: said '$(cat $said)', not 'round: $2'" && status=1; }
 }
 
+line="the sheet is empty"
+mistake 14 "$line" "an empty file" ""
+
 line="the sheet is longer than 128 bytes"
 mistake 14 "$line" "spaces behind the second line" "${title}2 1 -1000 100 1,1%101s\n"
 mistake 14 "$line" "three sheets in a file" "${title}2 1 -1000 100 1,1\n${title}2 2 -1000 100 0,0\n${title}2 3 -1000 100 0,0\n"
@@ -42,7 +45,6 @@ mistake 14 "$line" "a hard space" "${title}2\302\2401 -1000 100 1,1\n"
 
 line="the sheet does not end with a line feed"
 mistake 14 "$line" "no line feed at the end" "${title}2 1 -1000 100 1,1"
-mistake 14 "$line" "an empty file" ""
 mistake 14 "$line" "the first line alone, without its line feed" "n rule top spacing start"
 mistake 14 "$line" "a space behind the last line feed" "${title}2 1 -1000 100 1,1\n "
 
@@ -132,7 +134,11 @@ line="top - (n - 1) * spacing, the lowest level before it is rounded, is below -
 mistake 9 "$line" "a lowest level that would round to -12000" "${title}6 1 -10000 401 1,1,1,1,1,1\n"
 mistake 9 "$line" "a lowest level of -12500" "${title}6 1 -10000 500 1,1,1,1,1,1\n"
 
-# make run fails where its sheet is refused, and says why; a terminal is told that a sheet is read.
+# make run takes a file name with spaces; it fails where its sheet is refused, and says why; a terminal is told that a sheet is read.
+spaced="target/host/bench 3's sheet.txt"
+cp docs/sample.sheet "$spaced"
+make --no-print-directory run SHEET="$spaced" | cmp - crates/round/stdout || status=1
+rm "$spaced"
 if make --no-print-directory run SHEET=$sheet >/dev/null 2>$said; then
   echo "make run of a refused sheet: passed" && status=1
 fi

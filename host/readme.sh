@@ -34,6 +34,7 @@ ln -s "$PWD/docs" "$PWD/target" "$room"
 
 cmp docs/sample.sheet crates/round/stdin || status=1
 look "docs/sample.sheet" 'cat docs/sample.sheet'
+look "docs/sample.levels" 'cat docs/sample.levels'
 look "what make run prints" 'target/bin/round <docs/sample.sheet'
 look "what round says of a tab" 'tr " " "\t" <docs/sample.sheet | target/bin/round 2>&1 >/dev/null'
 look "the first steps of a round" 'target/bin/round <docs/picture/sheet | awk -f docs/picture/steps.awk'

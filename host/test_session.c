@@ -6,7 +6,7 @@
 #include "testing.h"
 
 static uint8_t *frame_page, *answer_page, *file_page;
-static long seen[20], seen_loads[2], seen_table_steps, seen_round_steps, seen_again;
+static long seen[20], seen_loads[2], seen_table_steps, seen_round_steps, seen_again, seen_like_steps, seen_taken;
 
 static int same_setting(const struct wko_setting *a, const struct wko_setting *b)
 {
@@ -18,6 +18,17 @@ static int same_session(const struct wko_session *a, const struct wko_session *b
     return a->begun == b->begun && a->version == b->version && a->round == b->round && a->n == b->n && a->rule == b->rule
            && same_setting(&a->setting, &b->setting) && a->done == b->done && memcmp(a->window, b->window, 16) == 0
            && memcmp(a->held, b->held, sizeof a->held) == 0;
+}
+
+/* Whether a host takes an answer for the step that the session did last: the answer to a step, or one to a query that is the same in all bytes. */
+static void check_taken(const struct wko_answer *read, const struct wko_session *model, int refusal, int stepped, int version)
+{
+    int newest = refusal == 0 ? model->window[model->n - 1] : 0, round = version == 2 ? model->round : 0;
+    int like_step = stepped || (newest == 0 && refusal == 0 && model_level(model, 0) == 0);
+    int want = refusal == 0 && model->done > 0 && like_step;
+    seen_like_steps += want && !stepped;
+    CHECK(wko_is_step_answer(read, (uint8_t)model->n, model->rule, model->setting, (uint8_t)round, model->done) == want,
+          "an answer is%s taken for step %d, refusal %d", want ? " not" : "", (int)model->done, refusal);
 }
 
 /* What wko_read_answer reads, against the model after the frame; `stepped` where the frame was a step, and `version` that of the frame. */
@@ -34,6 +45,7 @@ static void check_read(const uint8_t *answer, const struct wko_session *model, i
     CHECK((read.different == 0) == (refusal != 0), "different symbols in an answer, refusal %d", refusal);
     if (refusal == 0)
         CHECK(memcmp(read.window, model->window, 16) == 0, "the window in an answer");
+    check_taken(&read, model, refusal, stepped, version);
 }
 
 /* Counts what a frame came to. A WKO2 begin frame that is accepted and changes nothing is a resend. */
@@ -313,13 +325,14 @@ static void histories(long rounds)
     CHECK(seen_table_steps > rounds, "only %ld steps were on a table", seen_table_steps);
     CHECK(seen_round_steps > rounds, "only %ld steps were WKO2", seen_round_steps);
     CHECK(seen_again > rounds / 4, "only %ld begin frames came again", seen_again);
+    CHECK(seen_like_steps > 0, "no answer to a query was that to a step");
 }
 
 /* A session as a device may have kept it, with every value of its first byte: 1 has begun, the others have not and stay as they are. Round 0 is
  * WKO1. */
 static void check_begun_bytes(int round)
 {
-    const struct wko_setting setting = {-1000, 100, {0}};
+    const struct wko_setting setting = WKO_EVEN(-1000, 100);
     const uint8_t start[3] = {2, 0, 1};
     uint8_t begin[40], query[40], step[40];
     wko_build_begin(begin, 3, 2, setting, start);
@@ -342,7 +355,7 @@ static void check_begun_bytes(int round)
 /* A session kept after a step that left the heights 0 to 15, the height d newest: the step sent again is answered with the level of d. */
 static void check_level(int d, int top, int spacing)
 {
-    struct wko_session s = {1, 1, 0, 16, 2, {(int16_t)top, (uint16_t)spacing, {0}}, {0}, 1, {0}};
+    struct wko_session s = {1, 1, 0, 16, 2, WKO_EVEN((int16_t)top, (uint16_t)spacing), {0}, 1, {0}};
     uint8_t step[40];
     for (int i = 0; i < 16; i++)
         s.window[i] = (uint8_t)((d + 1 + i) % 16);
@@ -369,7 +382,7 @@ static void check_bytes(void)
     static const uint8_t step[40] = {'W', 'K', 'O', '1', 'S', 0, 0, 0, 8, 7, 6, 5, 4, 3, 2, 1};
     static const uint8_t query[40] = {'W', 'K', 'O', '1', 'Q'};
     static const uint8_t answer[40] = {'W', 'K', 'A', '1', 0, 2, 3, 0, 8, 7, 6, 5, 4, 3, 2, 1, 192, 249, 255, 255, 0, 0, 0, 0, 1, 0, 2};
-    const struct wko_setting setting = {-1000, 300, {0}};
+    const struct wko_setting setting = WKO_EVEN(-1000, 300);
     const uint8_t start[3] = {2, 0, 1}, window[16] = {1, 0, 2};
     struct wko_answer read;
     uint8_t f[40];
@@ -382,6 +395,87 @@ static void check_bytes(void)
     CHECK(wko_read_answer(&read, answer, 40) == 1 && read.refusal == 0 && read.symbol == 2 && read.different == 3, "an answer is read");
     CHECK(read.done == 0x0102030405060708u && read.level == -1600 && memcmp(read.window, window, 16) == 0, "numbers and window of an answer");
     CHECK(wko_read_answer(&read, answer, 39) == 0 && wko_read_answer(&read, query, 40) == 0, "what is no answer is not read");
+}
+
+/* wko_level for every symbol, any top and any spacing, those that test 9 refuses too, and for any table. */
+static void check_level_of(void)
+{
+    for (long k = 0; k < 200000; k++) {
+        struct wko_session s = random_session();
+        s.rule = (uint8_t)(1 + k % 3);
+        if (k % 2)
+            s.setting.top = (int16_t)(uint16_t)random64();
+        if (k % 2)
+            s.setting.spacing = (uint16_t)random64();
+        for (int symbol = s.rule == 1; symbol < 16 + (s.rule == 1); symbol++)
+            CHECK(wko_level(s.rule, s.setting, (uint8_t)symbol) == model_level(&s, symbol), "the level of %d under rule %d", symbol, s.rule);
+    }
+}
+
+/* Whether the answer in these bytes is taken for step k of the session's round. */
+static int takes(const struct wko_session *s, const uint8_t *bytes, int round, uint64_t k)
+{
+    struct wko_answer read;
+    return wko_read_answer(&read, bytes, 40) && wko_is_step_answer(&read, (uint8_t)s->n, s->rule, s->setting, (uint8_t)round, k);
+}
+
+/* The answer to the step that the session did last, with every byte changed to every other value: what a host does not compare is the number of
+ * different symbols, bytes 20 to 23 and the window but for its newest symbol. Then with another symbol and the same as the newest. */
+static void damaged_answers(const struct wko_session *s, const uint8_t *answer, int round)
+{
+    int newest = 24 + (int)s->n - 1;
+    uint8_t other[40];
+    for (int at = 0; at < 40; at++)
+        for (int byte = 0; byte < 256; byte++) {
+            int want = byte == answer[at] || at == 6 || (at >= 20 && at != newest);
+            memcpy(other, answer, 40);
+            other[at] = (uint8_t)byte;
+            CHECK(takes(s, other, round, s->done) == want, "byte %d as %d: the answer is%s taken", at, byte, want ? " not" : "");
+        }
+    for (int symbol = s->rule == 1; symbol < 256; symbol++) {
+        memcpy(other, answer, 40);
+        other[5] = other[newest] = (uint8_t)symbol;
+        CHECK(takes(s, other, round, s->done) == (symbol == answer[5]), "symbol %d is taken at the level of %d", symbol, answer[5]);
+    }
+}
+
+/* Steps of a random round: each answer is taken for its step, and for no other step, round or version. */
+static void check_step_answers(void)
+{
+    uint8_t f[40];
+    struct wko_session s = wko_fresh();
+    load_random(&s);
+    begin_frame(f, 0);
+    int round = f[7];
+    check_frame(&s, f, 40, 40);
+    for (uint64_t k = 1; s.begun && k <= 3; k++) {
+        const uint8_t *answer = at_end(answer_page, 40);
+        wko_build_step(f, k);
+        in_round(round, f);
+        check_frame(&s, f, 40, 40);
+        if (answer[4] != 0)
+            continue;
+        seen_taken++;
+        CHECK(takes(&s, answer, round, k), "the answer to step %d is not taken", (int)k);
+        CHECK(!takes(&s, answer, round, k - 1) && !takes(&s, answer, round, k + 1), "the answer to step %d is taken for another", (int)k);
+        CHECK(!takes(&s, answer, round == 0 ? 1 : 0, k) && !takes(&s, answer, round == 255 ? 1 : round + 1, k), "an answer of another round is taken");
+        damaged_answers(&s, answer, round);
+    }
+}
+
+/* 0,1 and 0,1,0 are the same sixteen bytes. Where the level of 0 is 0, the answer to a query at 0,1 is that to a step to 0,1,0: a host that does
+ * not look at n would take it. */
+static void query_like_a_step(void)
+{
+    const struct wko_session two = {1, 2, 7, 2, 2, WKO_EVEN(0, 100), {0, 1}, 1, {0}}, three = {1, 2, 7, 3, 2, WKO_EVEN(0, 100), {0, 1}, 1, {0}};
+    uint8_t query[40], step[40], asked[40], stepped[40];
+    wko_build_query(query);
+    wko_build_step(step, 1);
+    in_round(7, query);
+    in_round(7, step);
+    CHECK(wko_exchange(two, query, 40, asked, 40).number == 0 && wko_exchange(three, step, 40, stepped, 40).number == 0, "both are answered");
+    CHECK(memcmp(asked, stepped, 40) == 0, "the answers are the same bytes");
+    CHECK(!takes(&two, asked, 7, 1) && takes(&three, stepped, 7, 1), "they are told apart by n");
 }
 
 /* Document 02, Paper 4. Two tables that have no level in common; a session that has begun a round of 3 on the first under rule 2, with two steps
@@ -402,7 +496,7 @@ static struct wko_session kept_round(void)
 static uint8_t *begin_at(int top, int spacing)
 {
     static uint8_t frame[40];
-    const struct wko_setting setting = {(int16_t)top, (uint16_t)spacing, {0}};
+    const struct wko_setting setting = WKO_EVEN((int16_t)top, (uint16_t)spacing);
     const uint8_t start[3] = {2, 0, 1};
     wko_build_begin(frame, 3, 2, setting, start);
     return frame;
@@ -822,7 +916,7 @@ static void begin_changed(void)
         {15, 128, 5}, {16, 25, 19}, {17, 251, 19}, {17, 0, 19}, {17, 127, 9}, {18, 45, 19}, {18, 0, 19}, {19, 0, 19}, {19, 2, 9},
         {20, 1, 5}, {23, 1, 5}, {24, 1, 19}, {24, 2, 19}, {24, 3, 8}, {25, 0, 19}, {25, 2, 8}, {26, 1, 19}, {26, 2, 19}, {26, 3, 8},
         {27, 1, 8}, {39, 1, 8}};
-    const struct wko_setting setting = {-1000, 300, {0}};
+    const struct wko_setting setting = WKO_EVEN(-1000, 300);
     const uint8_t start[3] = {0, 1, 0};
     uint8_t f[40], other[40];
     wko_build_begin(f, 3, 2, setting, start);
@@ -1063,6 +1157,19 @@ static void longest_file(void)
     CHECK(check_load(&s, text, longest) == 0 && memcmp(s.held, table, sizeof table) == 0, "the longest file is loaded");
 }
 
+/* The README's level file. */
+static void sample_file(void)
+{
+    static const int16_t table[WKO_LEVELS] = {2000, 1500, 1475, 1000, 500, 0, -500, -1000, -2000, -3000, -4000, -5000, -6000, -8000, -10000, -12000};
+    char text[REF_FILE + 1] = {0};
+    struct wko_session s = wko_fresh();
+    FILE *file = fopen("docs/sample.levels", "rb");
+    size_t len = file != NULL ? fread(text, 1, sizeof text, file) : 0;
+    if (file != NULL)
+        fclose(file);
+    CHECK(check_load(&s, text, len) == 0 && memcmp(s.held, table, sizeof table) == 0, "docs/sample.levels is not loaded");
+}
+
 static void check_files(void)
 {
     struct wko_session s = wko_fresh();
@@ -1131,6 +1238,7 @@ static void check_files(void)
     check_single_bytes();
     check_long_files();
     longest_file();
+    sample_file();
 }
 
 int main(void)
@@ -1146,6 +1254,11 @@ int main(void)
     check_begun_bytes(0);
     check_begun_bytes(7);
     check_levels();
+    check_level_of();
+    for (int k = 0; k < 200; k++)
+        check_step_answers();
+    CHECK(seen_taken > 100, "only %ld answers to steps were tried", seen_taken);
+    query_like_a_step();
     check_tables();
     check_versions();
     check_files();

@@ -17,7 +17,7 @@
 #include <stddef.h>
 #include <stdint.h>
 
-#define WKO_LIBRARY_VERSION "4.2.0"
+#define WKO_LIBRARY_VERSION "4.3.0"
 #define WKO_MAX_N 16     /* symbols of the longest window */
 #define WKO_FRAME_LEN 40 /* bytes of a frame, and of its answer */
 #define WKO_OPEN 255     /* an open place of a pattern */
@@ -171,6 +171,9 @@ struct wko_setting {
     int16_t table[WKO_LEVELS]; /* the round's copy of a table, in hundredths of a dBm, if top and spacing are 0; frames do not carry it */
 };
 
+/* Even spacing, without a table, to start a variable with: struct wko_setting s = WKO_EVEN(-1000, 100); */
+#define WKO_EVEN(top, spacing) {(top), (spacing), {0}}
+
 struct wko_session {
     uint8_t begun;   /* 1: a round has begun; any other value: none has */
     uint8_t version; /* of the begin frame: 2 is WKO2, any other value WKO1 */
@@ -224,6 +227,11 @@ struct wko_loaded wko_load_levels(struct wko_session session, const uint8_t *fil
  *
  * A step frame numbered done + 1 steps; one numbered done, at least 1, is a resend: it changes nothing and gets the same answer.
  *
+ * For hosts, of which the README says more under that name. A window is the last n sweeps, and a step answers its newest symbol alone: so the last
+ * n - 1 symbols of the start window are played and measured before step 1, at the levels that wko_level gives (wko_frames.h), or the windows after
+ * steps 1 to n - 1 are never measured whole. A step counts when its own answer has come, which wko_is_step_answer tells, and its level has been
+ * measured and logged; until then it is sent again, whatever else comes. A refusal does not say which frame it refuses.
+ *
  * The round number of a WKO2 frame is 1 to 255; 0 is refused (5). A round is stepped and queried by frames of the version that began it (17),
  * and in WKO2 by steps with its number alone (18): a step that comes late, when another round has begun, moves nothing. A WKO1 begin frame
  * begins a round at any time. The WKO2 round in force is the session's, where it counts as begun and version is 2. A WKO2 begin frame with
@@ -245,21 +253,22 @@ struct wko_exchanged wko_exchange(struct wko_session session, const uint8_t *fra
 /* The layout that libwko.a was built for: x86-64 Linux, System V ABI. Another one does not compile. A host that only sends frames, and does not
  * link the library, defines WKO_FRAMES_ONLY first and may be any machine. */
 #ifndef WKO_FRAMES_ONLY
+#define WKO_LAYOUT                                                                                                                          \
+    (sizeof(struct wko_setting) == 36 && offsetof(struct wko_setting, top) == 0 && offsetof(struct wko_setting, spacing) == 2               \
+     && offsetof(struct wko_setting, table) == 4                                                                                           \
+     && sizeof(struct wko_session) == 112 && offsetof(struct wko_session, begun) == 0 && offsetof(struct wko_session, version) == 1         \
+     && offsetof(struct wko_session, round) == 2 && offsetof(struct wko_session, n) == 8 && offsetof(struct wko_session, rule) == 16        \
+     && offsetof(struct wko_session, setting) == 18 && offsetof(struct wko_session, window) == 54                                          \
+     && offsetof(struct wko_session, done) == 72 && offsetof(struct wko_session, held) == 80                                               \
+     && sizeof(struct wko_exchanged) == 120 && offsetof(struct wko_exchanged, session) == 0 && offsetof(struct wko_exchanged, number) == 112 \
+     && sizeof(struct wko_loaded) == 120 && offsetof(struct wko_loaded, session) == 0 && offsetof(struct wko_loaded, number) == 112)
 #if defined __cplusplus && __cplusplus >= 201103L
-#define WKO_LAYOUT(holds) static_assert(holds, "wko.h: the structs are not laid out as in libwko.a")
+static_assert(WKO_LAYOUT, "wko.h: the structs are not laid out as in libwko.a");
 #elif defined __STDC_VERSION__ && __STDC_VERSION__ >= 201112L
-#define WKO_LAYOUT(holds) _Static_assert(holds, "wko.h: the structs are not laid out as in libwko.a")
+_Static_assert(WKO_LAYOUT, "wko.h: the structs are not laid out as in libwko.a");
 #else
-#define WKO_LAYOUT(holds) extern const char wko_layout[(holds) ? 1 : -1]
+extern const char wko_layout[WKO_LAYOUT ? 1 : -1]; /* the structs are not laid out as in libwko.a where this has a negative length */
 #endif
-WKO_LAYOUT(sizeof(struct wko_setting) == 36 && offsetof(struct wko_setting, top) == 0 && offsetof(struct wko_setting, spacing) == 2);
-WKO_LAYOUT(offsetof(struct wko_setting, table) == 4);
-WKO_LAYOUT(sizeof(struct wko_session) == 112 && offsetof(struct wko_session, begun) == 0 && offsetof(struct wko_session, version) == 1);
-WKO_LAYOUT(offsetof(struct wko_session, round) == 2 && offsetof(struct wko_session, n) == 8);
-WKO_LAYOUT(offsetof(struct wko_session, rule) == 16 && offsetof(struct wko_session, setting) == 18);
-WKO_LAYOUT(offsetof(struct wko_session, window) == 54 && offsetof(struct wko_session, done) == 72 && offsetof(struct wko_session, held) == 80);
-WKO_LAYOUT(sizeof(struct wko_exchanged) == 120 && offsetof(struct wko_exchanged, session) == 0 && offsetof(struct wko_exchanged, number) == 112);
-WKO_LAYOUT(sizeof(struct wko_loaded) == 120 && offsetof(struct wko_loaded, session) == 0 && offsetof(struct wko_loaded, number) == 112);
 #undef WKO_LAYOUT
 #endif
 

@@ -3,6 +3,7 @@
  *
  * Inline C that needs nothing of libwko.a, so that it serves a host that only sends frames, on any machine (WKO_FRAMES_ONLY in wko.h). It is
  * tested with the library; it is not proved. A builder fills all 40 bytes of a frame and tests nothing: what is wrong with a frame, its answer says.
+ * What a host does so that nothing is skipped on a link that loses frames stands in the README under "For hosts"; host/link.c is such a host.
  */
 #ifndef WKO_FRAMES_H
 #define WKO_FRAMES_H
@@ -94,6 +95,28 @@ static inline int wko_read_answer(struct wko_answer *answer, const uint8_t *byte
     answer->level = level <= INT32_MAX ? (int32_t)level : (int32_t)(level - 0x80000000u) + INT32_MIN;
     memcpy(answer->window, bytes + 24, WKO_MAX_N);
     return 1;
+}
+
+/* The level of a symbol under a rule and a setting, in hundredths of a dBm, as the library computes it: the multiple of 25 nearest to
+ * top - d * spacing, or entry d of the table where top and spacing are both 0 (wko.h says what d is). A host plays the start window by it. */
+static inline int32_t wko_level(uint8_t rule, struct wko_setting setting, uint8_t symbol)
+{
+    int32_t d = rule == 1 && symbol > 0 ? symbol - 1 : symbol, exact = setting.top - d * (int32_t)setting.spacing;
+    if (setting.top == 0 && setting.spacing == 0)
+        return d < WKO_LEVELS ? setting.table[d] : 0;
+    return exact < 0 ? -((12 - exact) / 25 * 25) : (exact + 12) / 25 * 25; /* no quotient below zero, which C would cut off towards zero */
+}
+
+/* Whether an answer is the one to step k of a round of n symbols: it has the round number (0 for a WKO1 round), k steps done, and the symbol and
+ * the level that belong to the newest symbol of its window. Answers do not carry the kind of the question: one to a query says "k steps done" too,
+ * with symbol 0 and level 0. On a table round the setting holds the host's own copy of the table, which must be the one that the device took. */
+static inline int wko_is_step_answer(const struct wko_answer *answer, uint8_t n, uint8_t rule, struct wko_setting setting, uint8_t round, uint64_t k)
+{
+    if (n < 1 || n > WKO_MAX_N || k < 1)
+        return 0;
+    if (answer->refusal != 0 || answer->version != (round == 0 ? 1 : 2) || answer->round != round || answer->done != k)
+        return 0;
+    return answer->symbol == answer->window[n - 1] && answer->level == wko_level(rule, setting, answer->symbol);
 }
 
 #endif

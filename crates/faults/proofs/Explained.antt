@@ -20,12 +20,13 @@ use Rattle.sheets.specs.Judgement.{judged, judgedSheet, judgedText}
 use Rattle.faults.specs.Faults.{hasByte, endsLine, malformed, startFault, settingFault, sheetFault, textFault, faultOf}
 use Rattle.faults.specs.Claims.{verdictOf, Formless, TooLow, Claims}
 use Rattle.faults.specs.declared.Fault.{Fault}
-use Rattle.faults.specs.declared.Fault.the-variants.{Nothing, TooLong, CarriageReturn, Tab, NotAscii, NoLineFeed, FirstLine}
+use Rattle.faults.specs.declared.Fault.the-variants.{Nothing, Empty, TooLong, CarriageReturn, Tab, NotAscii, NoLineFeed, FirstLine}
 use Rattle.faults.specs.declared.Fault.the-variants.{SecondLine, Length, Rule, Count, RankForm, HeightForm, Top, Spacing, LowestLevel}
 
 -- what a fault says of the sheet that the text reads as
 abbrev Known : List ℕ → Fault → Type 0
 Known s Nothing = Unit {0}
+Known s Empty = Unit {0}
 Known s TooLong = Unit {0}
 Known s CarriageReturn = Unit {0}
 Known s Tab = Unit {0}
@@ -50,18 +51,19 @@ Explains s v f = (v ≡ verdictOf f) × Known s f
 
 malformed-explains : (s : List ℕ) → Explains s (Refused SheetMalformed) (malformed s)
 unfolding malformed
-malformed-explains s = go (ltb longest (length s)) (hasByte 13 13 s) (hasByte 9 9 s) (hasByte 128 255 s) (endsLine s) (hasTitle s)
+malformed-explains s = go (eqb (length s) 0) (ltb longest (length s)) (hasByte 13 13 s) (hasByte 9 9 s) (hasByte 128 255 s) (endsLine s) (hasTitle s)
   where
-    go : (long cr tab high line title : Bool) → Explains s (Refused SheetMalformed) (
-        cond long TooLong (cond cr CarriageReturn (cond tab Tab (cond high NotAscii (
-        cond (not line) NoLineFeed (cond (not title) FirstLine SecondLine))))))
-    go true cr tab high line title = (refl, tt)
-    go false true tab high line title = (refl, tt)
-    go false false true high line title = (refl, tt)
-    go false false false true line title = (refl, tt)
-    go false false false false false title = (refl, tt)
-    go false false false false true false = (refl, tt)
-    go false false false false true true = (refl, tt)
+    go : (none long cr tab high line title : Bool) → Explains s (Refused SheetMalformed) (
+        cond none Empty (cond long TooLong (cond cr CarriageReturn (cond tab Tab (cond high NotAscii (
+        cond (not line) NoLineFeed (cond (not title) FirstLine SecondLine)))))))
+    go true long cr tab high line title = (refl, tt)
+    go false true cr tab high line title = (refl, tt)
+    go false false true tab high line title = (refl, tt)
+    go false false false true high line title = (refl, tt)
+    go false false false false true line title = (refl, tt)
+    go false false false false false false title = (refl, tt)
+    go false false false false false true false = (refl, tt)
+    go false false false false false true true = (refl, tt)
 
 -- ---- a sheet
 

@@ -17,6 +17,7 @@ unfolding all count below isRank inForm isRule sameBytes settingOk further next 
     hasByte endsLine hasTitle malformed sheetFault textFault faultOf
 examples = record {
   accepted = refl;
+  empty = refl;
   tab = refl;
   no-line-feed = refl;
   first-line = refl;

@@ -17,12 +17,13 @@ use Rattle.sheets.specs.Sheet.{RawSheet, parse}
 use Rattle.sheets.specs.Judgement.{judgedText}
 use Rattle.faults.specs.Faults.{faultOf}
 use Rattle.faults.specs.declared.Fault.{Fault}
-use Rattle.faults.specs.declared.Fault.the-variants.{Nothing, TooLong, CarriageReturn, Tab, NotAscii, NoLineFeed, FirstLine}
+use Rattle.faults.specs.declared.Fault.the-variants.{Nothing, Empty, TooLong, CarriageReturn, Tab, NotAscii, NoLineFeed, FirstLine}
 use Rattle.faults.specs.declared.Fault.the-variants.{SecondLine, Length, Rule, Count, RankForm, HeightForm, Top, Spacing, LowestLevel}
 
 -- the verdict that a fault explains
 abbrev pub verdictOf : Fault → Verdict
 verdictOf Nothing = Accepted
+verdictOf Empty = Refused SheetMalformed
 verdictOf TooLong = Refused SheetMalformed
 verdictOf CarriageReturn = Refused SheetMalformed
 verdictOf Tab = Refused SheetMalformed

@@ -15,7 +15,7 @@ use Rattle.levels.specs.Level.{topOk, spacingOk}
 use Rattle.sheets.specs.Sheet.{RawSheet, longest, hasTitle, parse}
 use Rattle.sheets.specs.Judgement.{judged}
 use Rattle.faults.specs.declared.Fault.{Fault}
-use Rattle.faults.specs.declared.Fault.the-variants.{Nothing, TooLong, CarriageReturn, Tab, NotAscii, NoLineFeed, FirstLine}
+use Rattle.faults.specs.declared.Fault.the-variants.{Nothing, Empty, TooLong, CarriageReturn, Tab, NotAscii, NoLineFeed, FirstLine}
 use Rattle.faults.specs.declared.Fault.the-variants.{SecondLine, Length, Rule, Count, RankForm, HeightForm, Top, Spacing, LowestLevel}
 
 -- ---- a text that reads as no sheet (14)
@@ -33,13 +33,14 @@ endsLine s = eqb (byte s (length s - 1)) (code "\n")
 unfoldable pub malformed : List ℕ → Fault
 unfolding hasByte endsLine hasTitle
 malformed s =
+    cond (eqb (length s) 0) Empty (
     cond (ltb longest (length s)) TooLong (
     cond (hasByte 13 13 s) CarriageReturn (
     cond (hasByte 9 9 s) Tab (
     cond (hasByte 128 255 s) NotAscii (
     cond (not (endsLine s)) NoLineFeed (
     cond (not (hasTitle s)) FirstLine
-    SecondLine)))))
+    SecondLine))))))
 
 -- ---- a sheet that is refused
 

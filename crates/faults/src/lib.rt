@@ -11,6 +11,7 @@ use sheets::sheet::Sheet;
 pub enum Fault {
     Nothing,
     // 14, the sheet is malformed
+    Empty,
     TooLong,
     CarriageReturn,
     Tab,
@@ -60,6 +61,9 @@ fn ends_line(text: &[u8]) -> bool
 fn malformed(text: &[u8]) -> Fault
     ensures { λ r. ⌜ r ≡ malformed (now (text .entry)) ⌝ }
 {
+    if text.len() == 0 {
+        return Fault::Empty;
+    }
     if 128 < text.len() {
         return Fault::TooLong;
     }

@@ -4,8 +4,8 @@ ghost use mathlib.Core.Path.{_≡_};
 ghost use lib.ListN.{length};
 ghost use Rattle.frames.specs.Answer.{accepted};
 ghost use Rattle.frames.specs.Question.{isSecond};
-ghost use Rattle.stepper.specs.Exchange.{hasBegun, tableFor, versionOf, roundIn, beginAnew, beginFrame, stepFrame, queryFrame, handle};
-ghost use Rattle.stepper.specs.Exchange.{answerTo};
+ghost use Rattle.stepper.specs.Exchange.{hasBegun, tableFor, versionOf, roundIn, takesNumber, beginAnew, beginFrame, stepFrame, queryFrame};
+ghost use Rattle.stepper.specs.Exchange.{handle, answerTo};
 use frames::answer::Reply;
 use frames::question;
 use refusals::Cause;
@@ -63,8 +63,9 @@ fn round_in(f: [u8; 40], held: [i16; 16]) -> Session
     }
 }
 
-// A begin frame for a new round: tests 6 to 9, and 19.
-fn begin_anew(session: Session, f: [u8; 40]) -> Exchanged
+// A begin frame for a new round: tests 6 to 9, and 19. `taken` says whether its number is that of the WKO2 round in force.
+fn begin_anew(session: Session, taken: bool, f: [u8; 40]) -> Exchanged
+    requires { ⌜ taken ≡ takesNumber session f ⌝ }
     ensures { λ r. ⌜ r ≡ beginAnew session f ⌝ }
 {
     let held = session.held;
@@ -76,7 +77,7 @@ fn begin_anew(session: Session, f: [u8; 40]) -> Exchanged
             symbol: _,
             level: _,
         } => {
-            if session.takes_number(f) {
+            if taken {
                 return session.refuse(Cause::RoundInForce);
             }
             Exchanged {
@@ -94,10 +95,12 @@ fn begin_frame(session: Session, f: [u8; 40]) -> Exchanged
     if !question::reserved_begin(f) {
         return session.refuse(Cause::ReservedByte);
     }
-    if session.is_again(f) {
+    let force = session.in_force();
+    if session.is_again(force, f) {
         return session.accept();
     }
-    begin_anew(session, f)
+    let taken = session.takes_number(force, f);
+    begin_anew(session, taken, f)
 }
 
 fn step_frame(session: Session, f: [u8; 40]) -> Exchanged

@@ -1,5 +1,6 @@
 // Standard input, read so that a read that fails is told from the input's end. io::read_full answers a short count for both.
 ghost use Rattle.io.specs.Counts.{Counts};
+ghost use Rattle.input.specs.Filled.{Filled};
 use libc::STDIN_FILENO;
 
 // How many bytes came, and whether a read failed behind them; then errno says why.
@@ -21,7 +22,7 @@ fn read_once(out: &mut [u8]) -> Got
 
 // Reads until the slice is full, the input ends or a read fails.
 pub fn fill(out: &mut [u8]) -> Got
-    ensures { λ r. ⌜ Counts (r .len) (now (out .exit)) ⌝ }
+    ensures { λ r. ⌜ Filled r (now (out .exit)) ⌝ }
 {
     let mut len = 0;
     while len < out.len() {

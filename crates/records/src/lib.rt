@@ -1,10 +1,11 @@
 // One session through the records of standard input: what the programs replay and replay_events do. Their sources say what a record is.
 // Rests on handler for what a record comes to, and on input for reads. `name` is the program's, for what it says on standard error.
+ghost use mathlib.Core.Bool.{true, false};
 ghost use mathlib.Core.Path.{_≡_};
 ghost use Prim.Native.Nat.{_≤_, _<_};
 ghost use lib.ListN.{length, drop};
 ghost use Rattle.stepper.specs.Exchange.{exchange, loadLevels};
-ghost use Rattle.records.specs.Answered.{numbered};
+ghost use Rattle.records.specs.Answered.{numbered, Comes, Reached};
 use frames::answer;
 use libc::STDERR_FILENO;
 use libc::STDOUT_FILENO;
@@ -61,7 +62,9 @@ fn read_part(name: &[u8], part: &mut [u8], first: bool) -> bool {
     false
 }
 
-fn ended(session: Session) -> Played {
+fn ended(session: Session) -> Played
+    ensures { λ r. ⌜ r .more ≡ false ⌝ }
+{
     Played {
         more: false,
         session: session,
@@ -69,7 +72,9 @@ fn ended(session: Session) -> Played {
 }
 
 // The answer is written. If it cannot be, that is said, and no record may follow the gap.
-fn write_answer(name: &[u8], out: &[u8], next: Session) -> Played {
+fn write_answer(name: &[u8], out: &[u8], next: Session) -> Played
+    ensures { λ r. ⌜ r .session ≡ next ⌝ }
+{
     let written = io::write_all(STDOUT_FILENO, out);
     if !written {
         say_failed(name, b": could not write an answer");
@@ -106,9 +111,10 @@ fn answer_file(session: Session, file: &[u8], out: &mut [u8]) -> Session
     put_number(x, out)
 }
 
-// A frame that fills its slice, answered in `out`.
+// A frame that fills its slice, answered in `out`, which is what is written.
 fn play_frame_in(name: &[u8], session: Session, frame: &mut [u8], out: &mut [u8]) -> Played
     requires { ⌜ 1 ≤ length (now out) ⌝ }
+    ensures { λ r. ⌜ (r .more ≡ true → (r .session, now (out .exit)) ≡ numbered (exchange session (now (frame .exit)) (drop 1 (now (out .entry))))) ⌝ }
 {
     if !read_part(name, frame, false) {
         return ended(session);
@@ -118,7 +124,9 @@ fn play_frame_in(name: &[u8], session: Session, frame: &mut [u8], out: &mut [u8]
 }
 
 // A record of a frame, from its lengths on. `first` says that it starts with them.
-fn play_frame(name: &[u8], session: Session, first: bool) -> Played {
+fn play_frame(name: &[u8], session: Session, first: bool) -> Played
+    ensures { λ r. ⌜ (r .more ≡ true → Comes session (r .session)) ⌝ }
+{
     let mut lengths = [0u8; 2];
     if !read_part(name, &mut lengths, first) {
         return ended(session);
@@ -131,9 +139,10 @@ fn play_frame(name: &[u8], session: Session, first: bool) -> Played {
     play_frame_in(name, session, &mut frame[..length], &mut out[..end])
 }
 
-// A level file that fills its slice, answered in `out`.
+// A level file that fills its slice, answered in `out`, which is what is written.
 fn play_file_in(name: &[u8], session: Session, file: &mut [u8], out: &mut [u8]) -> Played
     requires { ⌜ 1 ≤ length (now out) ⌝ }
+    ensures { λ r. ⌜ (r .more ≡ true → (r .session, now (out .exit)) ≡ numbered (loadLevels session (now (file .exit)), drop 1 (now (out .entry)))) ⌝ }
 {
     if !read_part(name, file, false) {
         return ended(session);
@@ -143,7 +152,9 @@ fn play_file_in(name: &[u8], session: Session, file: &mut [u8], out: &mut [u8]) 
 }
 
 // A record of a level file, from its length on. The buffer has room for any length that two bytes can say.
-fn play_file(name: &[u8], session: Session) -> Played {
+fn play_file(name: &[u8], session: Session) -> Played
+    ensures { λ r. ⌜ (r .more ≡ true → Comes session (r .session)) ⌝ }
+{
     let mut lengths = [0u8; 2];
     if !read_part(name, &mut lengths, false) {
         return ended(session);
@@ -157,7 +168,9 @@ fn play_file(name: &[u8], session: Session) -> Played {
 }
 
 // A record of a frame or of a level file, by its first byte.
-fn play_event(name: &[u8], session: Session) -> Played {
+fn play_event(name: &[u8], session: Session) -> Played
+    ensures { λ r. ⌜ (r .more ≡ true → Comes session (r .session)) ⌝ }
+{
     let mut letter = [0u8; 1];
     if !read_part(name, &mut letter, true) {
         return ended(session);
@@ -172,7 +185,9 @@ fn play_event(name: &[u8], session: Session) -> Played {
     }
 }
 
-fn play(name: &[u8], kind: Kind, session: Session) -> Played {
+fn play(name: &[u8], kind: Kind, session: Session) -> Played
+    ensures { λ r. ⌜ (r .more ≡ true → Comes session (r .session)) ⌝ }
+{
     match kind {
         Kind::Frames => play_frame(name, session, true),
         Kind::Events => play_event(name, session),
@@ -187,18 +202,21 @@ fn report_rest(name: &[u8]) {
     }
 }
 
-// A record a turn. A million is an end, so that the run is proved to have one.
-pub fn run(name: &[u8], kind: Kind) {
+// A record a turn. A million is an end, so that the run is proved to have one. Gives the session that the answered records left.
+pub fn run(name: &[u8], kind: Kind) -> Session
+    ensures { λ r. ⌜ Reached 1000000 r ⌝ }
+{
     let mut session = Session::fresh();
     let mut records: u32 = 0;
     while records < 1000000 {
         let played = play(name, kind, session);
         if !played.more {
-            return;
+            return session;
         }
         let next = played.session;
         session = next;
         records += 1;
     }
     report_rest(name);
+    session
 }

@@ -54,6 +54,7 @@ fn say(text: &[u8]) {
 // What is wrong with the text of a sheet: refusal 14.
 fn explain_text(fault: Fault) {
     match fault {
+        Fault::Empty => say(b"the sheet is empty"),
         Fault::TooLong => say(b"the sheet is longer than 128 bytes"),
         Fault::CarriageReturn => say(
             b"the sheet has a carriage return: end its lines with a line feed alone",

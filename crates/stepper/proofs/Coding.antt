@@ -18,7 +18,7 @@ use Rattle.frames.proofs.ByteTests.{says-same-bytes}
 use Rattle.frames.proofs.BeginBytes.{bytes-unsigned, window-last}
 use Rattle.frames.proofs.Signed.{signed-bits}
 use Rattle.stepper.specs.declared.session.Session.{Session}
-use Rattle.stepper.specs.Exchange.{inSecond, isNumbered, inForce, begunBy, isAgain}
+use Rattle.stepper.specs.Exchange.{inSecond, isNumbered, inForce, begunBy, againIf, isAgain}
 use Rattle.stepper.proofs.Begun.{Begun, says-begun}
 
 -- What `isAgain` says of a session and a frame.
@@ -29,7 +29,7 @@ pub record Again (s : Session) (f : List ℕ) : Type 0 where
   pub same : f ≡ begunBy s
 
 pub says-again : (s : Session) (f : List ℕ) → Says (isAgain s f) (Again s f)
-unfolding isAgain inForce inSecond
+unfolding isAgain againIf inForce inSecond
 says-again s f = says-as
     (says-and (says-and (says-begun s) (says-eq (s .version) 2)) (says-and (says-eq (s .done) 0) (says-same-bytes f (begunBy s))))
     (λ ((begun, version), (done, same)). record { begun = begun; version = version; done = done; same = same })

@@ -100,16 +100,16 @@ joined a b e e′ = sym (take-append-drop 40 a) ∙ ap₂ _++_ e e′ ∙ take-a
 
 -- an answer of forty bytes, written over a buffer
 module _ (second : Bool) (x : Exchanged) (buffer : List ℕ) (l : length (answerTo second x) ≡ 40) where
-  written-bytes : take 40 (written second x buffer .1) ≡ answerTo second x
+  pub written-bytes : take 40 (written second x buffer .1) ≡ answerTo second x
   unfolding written
   written-bytes = take-at (answerTo second x) (drop 40 buffer) 40 l
 
-  written-rest : drop 40 (written second x buffer .1) ≡ drop 40 buffer
+  pub written-rest : drop 40 (written second x buffer .1) ≡ drop 40 buffer
   unfolding written
   written-rest = drop-at (answerTo second x) (drop 40 buffer) 40 l
 
 -- an answer has forty bytes, in either version
-bytes-long : (second : Bool) (round : ℕ) (reply : Reply) (different done : ℕ) (w : List ℕ) → length w ≡ 16 →
+pub bytes-long : (second : Bool) (round : ℕ) (reply : Reply) (different done : ℕ) (w : List ℕ) → length w ≡ 16 →
     length (answerBytes second round reply different done w) ≡ 40
 unfolding answerBytes
 bytes-long true round (Accepted symbol level) different done w l = omega arith
@@ -174,7 +174,7 @@ module _ (g : List ℕ) (t : List ℤ) (G : Good g t) where
       }
 
 -- what a refused frame gets
-rejected-written : (s : Session) (cause : Cause) (f buffer : List ℕ) → 40 ≤ length buffer →
+pub rejected-written : (s : Session) (cause : Cause) (f buffer : List ℕ) → 40 ≤ length buffer →
     Rejected cause s f buffer (written (isSecond f) (refuse s cause) buffer)
 unfolding written answerTo answerBytes
 rejected-written s cause f buffer h =
@@ -187,7 +187,7 @@ rejected-written s cause f buffer h =
       rest = written-rest (isSecond f) (refuse s cause) buffer long;
     }
 
-rejected-short : (s : Session) (f buffer : List ℕ) → length buffer < 40 → Rejected ShortBuffer s f buffer (refuse s ShortBuffer, buffer)
+pub rejected-short : (s : Session) (f buffer : List ℕ) → length buffer < 40 → Rejected ShortBuffer s f buffer (refuse s ShortBuffer, buffer)
 rejected-short s f buffer h = record {
   reply = refl;
   session = refl;

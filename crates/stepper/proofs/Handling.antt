@@ -54,7 +54,7 @@ pub data Begins (s : Session) (g : List ℕ) (x : Exchanged) : Type 0 where
   anew : Good g (tableFor g (s .held)) → isAgain s g ≡ false → x ≡ accept (roundIn g (s .held)) → Begins s g x
 
 -- An accepted reply to a begin frame is the one for it.
-begin-state : (s : Session) → accepted (beginReply s) ≡ true → beginReply s ≡ stateReply
+pub begin-state : (s : Session) → accepted (beginReply s) ≡ true → beginReply s ≡ stateReply
 unfolding beginReply replyIf windowOk
 begin-state s e =
     let tests = says-and (says-itself (isLength (s .n))) (says-and (says-itself (isRule (s .rule)))

@@ -6,8 +6,9 @@ pub mod Handling
 pub mod Standing
 pub mod Counting
 pub mod ExactlyOnce
-pub mod Leaves
+pub mod Outcomes
 pub mod RoundLevels
 pub mod Worked
 pub mod RoundNumbers
 pub mod LinedUp
+pub mod EveryFrame

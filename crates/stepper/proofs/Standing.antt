@@ -27,7 +27,7 @@ use Rattle.frames.proofs.BeginBytes.{second-header, window-long, frame-back}
 use Rattle.frames.proofs.Padding.{unused-padded, padded-take}
 use Rattle.level_files.specs.LevelFile.{readTable}
 use Rattle.stepper.specs.declared.session.Session.{Session}
-use Rattle.stepper.specs.Exchange.{inSecond, isNumbered, hasBegun, refuse, accept, tableFor, versionOf, roundIn, begunBy, isAgain}
+use Rattle.stepper.specs.Exchange.{inSecond, isNumbered, hasBegun, refuse, accept, tableFor, versionOf, roundIn, begunBy, isAgain, ifVersion}
 use Rattle.stepper.specs.Exchange.{onward, stepped, sameVersion, ifBegun, stepNumbered, stepOf, stepFrame, handle, withTable, loaded}
 use Rattle.stepper.specs.Exchange.{loadLevels}
 use Rattle.stepper.specs.ExactlyOnce.{Arrival, passes, ofRound, stepsIn, roundOf, isNext, isRetransmission, accepts, causeAt}
@@ -99,7 +99,7 @@ module _ (g : List ℕ) (t : List ℤ) (G : Good g t) where
   pub step-handled : (h : List ℤ) (c : ℕ) → c ≤ roundOf g → (x : Arrival) → 40 ≤ x .room → kindIn (x .frame) ≡ letterS →
       handle (sessionAt g t h c) (x .frame)
       ≡ cond (accepts g c x) (stepped (sessionAt g t h (numberIn (x .frame)))) (refuse (sessionAt g t h c) (causeAt g c x))
-  unfolding handle stepFrame stepOf ifBegun stepNumbered accepts isNext isRetransmission stepsIn passes ofRound causeAt roundOf sessionAt
+  unfolding handle stepFrame stepOf ifBegun ifVersion stepNumbered accepts isNext isRetransmission stepsIn passes ofRound causeAt roundOf sessionAt
   step-handled h c le x l kind =
       let f = x .frame in
       rw (kind, begun-at h c le, second-at h c, onward-at h c, le-leb 40 (x .room) l, le-ltb (x .room) 40 l)

@@ -123,15 +123,23 @@ unfoldable pub begunBy : Session → List ℕ
 unfolding beginBytes
 begunBy s = beginBytes true (s .n) (s .rule) (s .round) (s .setting) (s .window)
 
--- "a WKO2 B with all bytes equal to the one in force, with no step done" (Paper 6)
+-- "a WKO2 B with all bytes equal to the one in force, with no step done" (Paper 6), where `force` says whether a WKO2 round is in force
+unfoldable pub againIf : Session → Bool → List ℕ → Bool
+unfolding begunBy sameBytes
+againIf s force f = force && (eqb (s .done) 0 && sameBytes f (begunBy s))
+
 unfoldable pub isAgain : Session → List ℕ → Bool
-unfolding inForce begunBy sameBytes
-isAgain s f = inForce s && (eqb (s .done) 0 && sameBytes f (begunBy s))
+unfolding inForce againIf
+isAgain s f = againIf s (inForce s) f
 
 -- "WKO2 B with the round number of the WKO2 round in force" (Paper 6)
+unfoldable pub takesIf : Session → Bool → List ℕ → Bool
+unfolding isSecond
+takesIf s force f = force && (isSecond f && eqb (roundNumberIn f) (s .round))
+
 unfoldable pub takesNumber : Session → List ℕ → Bool
-unfolding inForce isSecond
-takesNumber s f = inForce s && (isSecond f && eqb (roundNumberIn f) (s .round))
+unfolding inForce takesIf
+takesNumber s f = takesIf s (inForce s) f
 
 -- a B that begins a new round: tests 6 to 9, where 9 looks at the table held, and 19
 unfoldable pub beginAnew : Session → List ℕ → Exchanged
@@ -183,6 +191,11 @@ unfoldable pub ifBegun : Session → Exchanged → Exchanged
 unfolding hasBegun
 ifBegun s x = cond (not (hasBegun s)) (refuse s NotBegun) x
 
+-- test 17 comes before what else an S or Q comes to, of the second version or the first
+unfoldable pub ifVersion : Session → Bool → Exchanged → Exchanged
+unfolding sameVersion inSecond
+ifVersion s second x = cond (not (sameVersion second (inSecond s))) (refuse s OtherVersion) x
+
 -- S numbered k of the round that the session holds, tests 11 and 12: k = done + 1 steps, k = done ≥ 1 is a resend
 unfoldable pub stepNumbered : Session → ℕ → Exchanged
 unfolding a onward stepped
@@ -193,20 +206,17 @@ stepNumbered s k =
 
 -- S numbered k, of the second version or the first, with the round number r: tests 10, 17, 18, then 11 and 12. A WKO1 frame has no round number
 unfoldable pub stepOf : Session → Bool → ℕ → ℕ → Exchanged
-unfolding ifBegun sameVersion inSecond stepNumbered
+unfolding ifBegun ifVersion stepNumbered
 stepOf s second r k =
     ifBegun s (
-    cond (not (sameVersion second (inSecond s))) (refuse s OtherVersion) (
+    ifVersion s second (
     cond (second && not (eqb r (s .round))) (refuse s OtherRound)
     (stepNumbered s k)))
 
 -- Q, of the second version or the first: tests 10 and 17
 unfoldable pub queryOf : Session → Bool → Exchanged
-unfolding ifBegun sameVersion inSecond
-queryOf s second =
-    ifBegun s (
-    cond (not (sameVersion second (inSecond s))) (refuse s OtherVersion)
-    (accept s))
+unfolding ifBegun ifVersion
+queryOf s second = ifBegun s (ifVersion s second (accept s))
 
 -- S and Q, from test 5 on
 unfoldable pub stepFrame : Session → List ℕ → Exchanged

@@ -4,3 +4,4 @@ pub mod RoundLevels
 pub mod Example
 pub mod RoundNumbers
 pub mod LinedUp
+pub mod EveryFrame

@@ -10,7 +10,7 @@ ghost use Rattle.ranking.specs.Counts.{a};
 ghost use Rattle.successors.specs.Rules.{ruleOf};
 ghost use Rattle.frames.specs.Fields.{zeros};
 ghost use Rattle.stepper.specs.Exchange.{replyIf, beginReply, inSecond, begunIf, hasBegun, fresh, refuse, accept, inForce};
-ghost use Rattle.stepper.specs.Exchange.{isAgain, takesNumber, onward, stepped, sameVersion, ifBegun, stepNumbered, stepOf, queryOf};
+ghost use Rattle.stepper.specs.Exchange.{againIf, takesIf, onward, stepped, sameVersion, ifBegun, stepNumbered, stepOf, queryOf};
 use frames::answer::Reply;
 use frames::question;
 use levels::Setting;
@@ -151,21 +151,25 @@ impl Session {
     }
 
     // A WKO2 round is in force.
-    fn in_force(self) -> bool
+    pub fn in_force(self) -> bool
         ensures { λ r. ⌜ r ≡ inForce self ⌝ }
     {
         self.has_begun() & (self.version == 2)
     }
 
-    // The begin frame in force again, with no step done: while none is, the session gives its forty bytes back.
-    pub fn is_again(self, f: [u8; 40]) -> bool
-        ensures { λ r. ⌜ r ≡ isAgain self f ⌝ }
+    // The begin frame in force again, with no step done: while none is, the session gives its forty bytes back. `force` says whether a WKO2
+    // round is in force, so that a begin frame asks for that once.
+    pub fn is_again(self, force: bool, f: [u8; 40]) -> bool
+        ensures { λ r. ⌜ r ≡ againIf self force f ⌝ }
     {
         let n = self.n;
         let done = self.done;
         let setting = self.setting;
         let window = self.window;
-        if !self.in_force() {
+        if !force {
+            return false;
+        }
+        if 255 < n {
             return false;
         }
         let begun_by = question::begin_bytes(true, n as u8, self.rule, self.round, setting, window);
@@ -173,12 +177,12 @@ impl Session {
     }
 
     // A begin frame with the round number of the WKO2 round in force.
-    pub fn takes_number(self, f: [u8; 40]) -> bool
-        ensures { λ r. ⌜ r ≡ takesNumber self f ⌝ }
+    pub fn takes_number(self, force: bool, f: [u8; 40]) -> bool
+        ensures { λ r. ⌜ r ≡ takesIf self force f ⌝ }
     {
         let round = f[7];
         let second = question::is_second(&f);
-        self.in_force() & (second & (round == self.round))
+        force & (second & (round == self.round))
     }
 
     // A frame of the second version, or of the first, is in the version of the round.

@@ -4,7 +4,7 @@ use lib.ListN.{length}
 use denote.Ref.{now}
 use Rattle.stepper.specs.Exchange.{answerTo}
 use Rattle.stepper.proofs.Begun.{says-begun}
-use Rattle.stepper.proofs.Leaves.{handle-leaves}
+use Rattle.stepper.proofs.Outcomes.{handle-leaves}
 use Rattle.stepper.proofs.Handling.{no-room}
 use Rattle.handler.proofs.Cases.{written-over}
 use borrow.Author.Needs.{needs}

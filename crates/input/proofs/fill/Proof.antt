@@ -1,4 +1,5 @@
 -- `fill`: each turn reads into what is left of the slice, and either ends or leaves less of it. Assumes nothing.
+use mathlib.Core.Bool.{false≢true}
 use mathlib.Core.Path.{_≡_}
 use Prim.Native.Nat.{_-_, _≤_}
 use lib.ListN.{length}
@@ -32,7 +33,7 @@ same-length : tie.Need-same-length Inv-loop μ-loop
 same-length c = search needs
 
 returns : tie.Need-returns Inv-loop μ-loop
-returns c = counts _ _ (search needs)
+returns c = record { counts = counts _ _ (search needs); short = λ t. search needs }
 
 add-len : tie.Need-add-len Inv-loop μ-loop
 add-len c = search needs
@@ -47,7 +48,7 @@ same-length-2 : tie.Need-same-length-2 Inv-loop μ-loop
 same-length-2 c = search needs
 
 returns-2 : tie.Need-returns-2 Inv-loop μ-loop
-returns-2 c = counts _ _ (search needs)
+returns-2 c = record { counts = counts _ _ (search needs); short = λ t. absurd (false≢true t) }
 
 pub fill-spec : {M : Type 1} → statement M
 fill-spec =

@@ -1,9 +1,11 @@
 -- `play_file`: two bytes say at most 65535, and the buffer has room for that. Assumes nothing.
-use mathlib.Core.Path.{_≡_, sym}
+use mathlib.Core.Bool.{false≢true}
+use mathlib.Core.Path.{_≡_, sym, _∙_}
 use native.Mathlib.Omega.{arith}
 use lib.ListN.{length}
 use lib.Seq.{length-take-le}
 use borrow.Author.Needs.{needs}
+use Rattle.records.proofs.Reaching.{file-comes}
 use Rattle.records.proofs.play_file.Statement.{statement}
 use Rattle.records.proofs.play_file.Tie as tie
 
@@ -17,7 +19,7 @@ ended-requires : tie.Need-ended-requires
 ended-requires c κs = search needs
 
 returns : tie.Need-returns
-returns c = search needs
+returns c = λ t. absurd (false≢true (sym (c .ended .ensures) ∙ t))
 
 array-read-wide : tie.Need-array-read-wide
 array-read-wide c = search needs
@@ -58,7 +60,7 @@ play-file-in-requires : tie.Need-play-file-in-requires
 play-file-in-requires c κs = search needs
 
 returns-2 : tie.Need-returns-2
-returns-2 c = search needs
+returns-2 c = λ t. file-comes _ _ _ _ _ (c .before .before .play-file-in .ensures t)
 
 pub play-file-spec : {M : Type 1} → statement M
 play-file-spec =

@@ -1,10 +1,12 @@
 -- `play_frame`: the parts of the two buffers have the lengths asked for. Assumes nothing.
-use mathlib.Core.Path.{_≡_, sym}
+use mathlib.Core.Bool.{false≢true}
+use mathlib.Core.Path.{_≡_, sym, _∙_}
 use Prim.Native.Nat.{_+_}
 use native.Mathlib.Omega.{arith}
 use lib.ListN.{length}
 use lib.Seq.{length-take-le}
 use borrow.Author.Needs.{needs}
+use Rattle.records.proofs.Reaching.{frame-comes}
 use Rattle.records.proofs.play_frame.Statement.{statement}
 use Rattle.records.proofs.play_frame.Tie as tie
 
@@ -18,7 +20,7 @@ ended-requires : tie.Need-ended-requires
 ended-requires c κs = search needs
 
 returns : tie.Need-returns
-returns c = search needs
+returns c = λ t. absurd (false≢true (sym (c .ended .ensures) ∙ t))
 
 array-read-wide : tie.Need-array-read-wide
 array-read-wide c = search needs
@@ -69,7 +71,7 @@ play-frame-in-requires c κs =
     omega (arith, length-take-le (1 + n .result) (b .result) (omega (arith, n .ensures)))
 
 returns-2 : tie.Need-returns-2
-returns-2 c = search needs
+returns-2 c = λ t. frame-comes _ _ _ _ _ (c .before .before .play-frame-in .ensures t)
 
 pub play-frame-spec : {M : Type 1} → statement M
 play-frame-spec =

@@ -22,9 +22,6 @@ refuse-requires c κs = search needs
 enum-told : tie.Need-enum-told
 enum-told c = search needs
 
-takes-number-requires : tie.Need-takes-number-requires
-takes-number-requires c κs = search needs
-
 refuse-requires-2 : tie.Need-refuse-requires-2
 refuse-requires-2 c κs = search needs
 
@@ -35,12 +32,11 @@ judged c = c .begin-reply .ensures ∙ ap beginReply (c .before .round-in .ensur
 returns : tie.Need-returns
 unfolding accepted
 returns c =
-    let number = c .before .before in
-    let told = number .before in
+    let told = c .before .before in
     let reply = told .before .before in
-    let s = reply .before .before .before .args in
+    let s = reply .before .before .before in
     c .refuse2 .ensures
-    ∙ begin-taken-number (s .session) (s .f) _ (judged reply) (rw (told .enum-told .given .1)) (sym (number .takes-number .ensures) ∙ c .before .if1 .taken)
+    ∙ begin-taken-number (s .args .session) (s .args .f) _ (judged reply) (rw (told .enum-told .given .1)) (sym (s .pre) ∙ c .before .if1 .taken)
 
 returns-2 : tie.Need-returns-2
 unfolding accepted
@@ -53,12 +49,11 @@ returns-2 c =
 returns-3 : tie.Need-returns-3
 unfolding accepted
 returns-3 c =
-    let number = c .before in
-    let told = number .before in
+    let told = c .before in
     let reply = told .before .before in
-    let s = reply .before .before .before .args in
+    let s = reply .before .before .before in
     rw (reply .before .round-in .ensures)
-    (begin-yes (s .session) (s .f) _ (judged reply) (rw (told .enum-told .given .1)) (sym (number .takes-number .ensures) ∙ c .if1 .left))
+    (begin-yes (s .args .session) (s .args .f) _ (judged reply) (rw (told .enum-told .given .1)) (sym (s .pre) ∙ c .if1 .left))
 
 pub begin-anew-spec : {M : Type 1} → statement M
 begin-anew-spec =
@@ -69,7 +64,6 @@ begin-anew-spec =
     enum-known-reply
     refuse-requires
     enum-told
-    takes-number-requires
     refuse-requires-2
     returns
     returns-2

@@ -1,7 +1,7 @@
 -- `Session::query` meets its contract: its tests are those of the definition, in order. Assumes nothing.
 use mathlib.Core.Path.{sym, _∙_}
 use borrow.Author.Tests.{not-true}
-use Rattle.stepper.specs.Exchange.{ifBegun, queryOf}
+use Rattle.stepper.specs.Exchange.{ifBegun, ifVersion, queryOf}
 use Rattle.stepper.proofs.Cases.{not-begun}
 use borrow.Author.Needs.{needs}
 use Rattle.stepper.proofs.session.Session.query.Statement.{statement}
@@ -24,7 +24,7 @@ refuse-requires-2 : tie.Need-refuse-requires-2
 refuse-requires-2 c κs = search needs
 
 returns-2 : tie.Need-returns-2
-unfolding queryOf ifBegun
+unfolding queryOf ifBegun ifVersion
 returns-2 c =
     let v = c .before .before in
     let b = v .before in
@@ -34,7 +34,7 @@ accept-requires : tie.Need-accept-requires
 accept-requires c κs = search needs
 
 returns-3 : tie.Need-returns-3
-unfolding queryOf ifBegun
+unfolding queryOf ifBegun ifVersion
 returns-3 c =
     let v = c .before .before in
     let b = v .before in

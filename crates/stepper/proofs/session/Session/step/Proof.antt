@@ -1,7 +1,7 @@
 -- `Session::step`: tests 17 and 18 come behind 10, and before 11 and 12. Assumes nothing.
 use mathlib.Core.Bool.{false≢true}
 use mathlib.Core.Path.{sym, _∙_}
-use Rattle.stepper.specs.Exchange.{stepOf}
+use Rattle.stepper.specs.Exchange.{ifVersion, stepOf}
 use borrow.Author.Needs.{needs}
 use Rattle.stepper.proofs.session.Session.step.Statement.{statement}
 use Rattle.stepper.proofs.session.Session.step.Tie as tie
@@ -13,14 +13,14 @@ refuse-begun-requires : tie.Need-refuse-begun-requires
 refuse-begun-requires c κs = search needs
 
 returns : tie.Need-returns
-unfolding stepOf
+unfolding stepOf ifVersion
 returns c = c .refuse-begun .ensures ∙ rw (← c .before .before .is-version .ensures, c .before .if1 .taken)
 
 refuse-begun-requires-2 : tie.Need-refuse-begun-requires-2
 refuse-begun-requires-2 c κs = search needs
 
 returns-2 : tie.Need-returns-2
-unfolding stepOf
+unfolding stepOf ifVersion
 returns-2 c =
     let v = c .before .before .before in
     c .refuse-begun2 .ensures ∙ rw (← v .before .is-version .ensures, v .if1 .left, c .before .if2 .taken)
@@ -32,7 +32,7 @@ next-step-requires : tie.Need-next-step-requires
 next-step-requires c κs = c .before .is-next .ensures .to (c .if3 .taken)
 
 returns-3 : tie.Need-returns-3
-unfolding stepOf
+unfolding stepOf ifVersion
 returns-3 c =
     let two = c .before .before .before in
     let v = two .before .before in
@@ -42,7 +42,7 @@ other-step-requires : tie.Need-other-step-requires
 other-step-requires c κs e lt = false≢true (sym (c .if3 .left) ∙ c .before .is-next .ensures .of (e, lt))
 
 returns-4 : tie.Need-returns-4
-unfolding stepOf
+unfolding stepOf ifVersion
 returns-4 c =
     let two = c .before .before .before in
     let v = two .before .before in

@@ -1,5 +1,5 @@
 -- `Session::takes_number` meets its contract. Assumes nothing.
-use Rattle.stepper.specs.Exchange.{takesNumber}
+use Rattle.stepper.specs.Exchange.{takesIf}
 use borrow.Author.Needs.{needs}
 use Rattle.stepper.proofs.session.Session.takes_number.Statement.{statement}
 use Rattle.stepper.proofs.session.Session.takes_number.Tie as tie
@@ -13,12 +13,9 @@ slice-aggregate-is-second c = search needs
 is-second-requires : tie.Need-is-second-requires
 is-second-requires c κs = search needs
 
-in-force-requires : tie.Need-in-force-requires
-in-force-requires c κs = search needs
-
 returns : tie.Need-returns
-unfolding takesNumber
-returns c = rw (c .before .in-force .ensures, c .before .before .is-second .ensures)
+unfolding takesIf
+returns c = rw (c .before .is-second .ensures)
 
 pub takes-number-spec : {M : Type 1} → statement M
 takes-number-spec =
@@ -27,5 +24,4 @@ takes-number-spec =
     array-read-round
     slice-aggregate-is-second
     is-second-requires
-    in-force-requires
     returns)
