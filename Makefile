@@ -5,7 +5,7 @@ LIB = target/staticlib/libwko.a
 HEADERS = include/wko.h include/wko_frames.h
 SOURCES := crates.txt $(shell find crates -name '*.rt' -o -name '*.antt')
 EXAMPLES = target/host/example target/host/link target/host/fill
-TESTS = target/host/test_calls target/host/test_session target/host/stack
+TESTS = target/host/test_calls target/host/test_session target/host/test_hosts target/host/stack
 MODELS = target/host/replay_records target/host/event_records target/host/sheet_answers target/host/step_counts
 PROGRAMS = target/bin/round target/bin/step_kinds
 

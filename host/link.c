@@ -1,15 +1,15 @@
 /*
  * A bench host over a link that loses and delays frames: one round of three symbols under rule 1. It keeps to what the README asks of hosts: a step
  * counts when its own answer has come and its level is measured and logged, and until then it is sent again, whatever else comes. The link has in its
- * script what can make a host skip a pattern, and the host crashes once. At the end the weak orders are counted in the log of what was measured, and
- * nowhere else. The device at the other end of the link is the library; what is measured there is the level at which it stands.
+ * script what can make a host skip a pattern, the host crashes once, and the device loses power once. At the end the weak orders are counted in the log
+ * of what was measured, and nowhere else. The device at the other end of the link is the library.
  */
 #include <inttypes.h>
 #include <stdio.h>
 #include <stdlib.h>
 #include "wko_frames.h"
 
-enum { N = 3, RULE = 1, ROUND = 2, COUNT = 13, SWEEPS = N - 1 + COUNT, TRIES = 10, CRASH = 8 }; /* there are 13 weak orders of 3 */
+enum { N = 3, RULE = 1, ROUND = 2, COUNT = 13, SWEEPS = N - 1 + COUNT, TRIES = 10, CRASH = 8, NO_TONE = -20000 }; /* there are 13 weak orders of 3 */
 
 static const struct wko_setting setting = WKO_EVEN(-1000, 100);
 static const uint8_t start[N] = {1, 1, 1};
@@ -24,13 +24,15 @@ static void give_up(const char *why)
 
 struct link {
     struct wko_session session;        /* the device's */
+    int32_t tone;                      /* the level at which the device has set the tone */
     uint8_t waiting[2][WKO_FRAME_LEN]; /* answers on their way to the host */
     unsigned come, read, questions, lost_questions, answers, lost_answers;
     const char *script; /* what becomes of the frames that are sent */
 };
 
-/* Of a frame that is sent, q: the question is lost; a: its answer is lost; a point: neither. In front of one of these, r: step 4 of round 1, which was
- * stuck in the hub, comes to the device; s: so does step 4 of this round; m: a query does, which somebody else has sent. */
+/* Of a frame that is sent, q: the question is lost; a: its answer is lost; p: neither, but the device loses power once it has answered; a point: none of
+ * these. In front of them, r: step 4 of round 1, which was stuck in the hub, comes to the device; s: so does step 4 of this round; m: a query does, which
+ * somebody else has sent. */
 static char scripted(struct link *link)
 {
     while (*link->script == ' ')
@@ -38,11 +40,13 @@ static char scripted(struct link *link)
     return *link->script != '\0' ? *link->script++ : '.';
 }
 
-/* The device takes a frame, and its answer is on its way. */
+/* The device takes a frame, and its answer is on its way. At a step that is accepted, first sent or again, it sets the tone. */
 static void deliver(struct link *link, const uint8_t *frame)
 {
     struct wko_exchanged after = wko_exchange(link->session, frame, WKO_FRAME_LEN, link->waiting[link->come++], WKO_FRAME_LEN);
     link->session = after.session;
+    if (after.number == 0 && frame[4] == 'S')
+        link->tone = wko_level(RULE, setting, link->session.window[N - 1]);
 }
 
 /* A frame comes that the host does not wait for, and its answer goes to the host. */
@@ -76,6 +80,8 @@ static void transmit(struct link *link, const uint8_t *frame)
     }
     deliver(link, frame);
     link->answers++;
+    if (what == 'p')
+        link->tone = NO_TONE;
     if (what == 'a') {
         link->lost_answers++;
         link->come--;
@@ -197,15 +203,20 @@ static void confirm_end(struct link *link)
     give_up("the device has left the round: it must be begun anew, with a new number");
 }
 
-/* The analyser measures the tone. */
-static int32_t measure(const struct link *link)
+/* Measures the tone and logs it. Gives 0 where the tone is not at the level of the answer, which a bench asks within its tolerance. */
+static int measured(const struct link *link, const struct wko_answer *answer, struct log *log)
 {
-    return wko_level(link->session.rule, link->session.setting, link->session.window[N - 1]);
+    if (link->tone != answer->level) {
+        printf("step %2" PRIu64 "  not measured at its level\n", answer->done);
+        return 0;
+    }
+    keep(log, answer->level, link->tone);
+    return 1;
 }
 
 int main(void)
 {
-    struct link link = {wko_fresh(), {{0}}, 0, 0, 0, 0, 0, 0, "a. . q. aq. r. qa. as. . . . am. qa. aa. ."};
+    struct link link = {wko_fresh(), NO_TONE, {{0}}, 0, 0, 0, 0, 0, 0, "a. . q. aq. r. qa. as. . . . am. qa. p. aa."};
     struct log log = {{0}, {0}, 0};
     struct wko_answer answer;
     uint64_t done = 0; /* steps that count */
@@ -221,7 +232,8 @@ int main(void)
             done = steps_logged(&log);
             continue;
         }
-        keep(&log, answer.level, measure(&link));
+        if (!measured(&link, &answer, &log))
+            continue;
         done++;
         printf("step %2" PRIu64 "  symbol %u  level %d  window %u,%u,%u  sent %d\n", done, answer.symbol, (int)answer.level, answer.window[0],
                answer.window[1], answer.window[2], sent);

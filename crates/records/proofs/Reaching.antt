@@ -3,7 +3,7 @@ use mathlib.Core.List.{List, [], _∷_, _++_}
 use mathlib.Core.Path.{_≡_, refl, ap, _∙_}
 use Prim.Native.Nat.{ℕ, _+_, _≤_}
 use native.Mathlib.Omega.{arith}
-use lib.ListN.{length, length-append}
+use lib.ListN.{length-append}
 use Rattle.stepper.specs.declared.session.Session.{Session}
 use Rattle.stepper.specs.Exchange.{fresh, exchange, loadLevels}
 use Rattle.stepper.specs.ExactlyOnce.{Event, question, levelFile, next, after}

@@ -32,9 +32,9 @@ front-of false round (Accepted symbol level) different done w behind t = refl
 front-of second round (Refused cause) different done w behind t = absurd (false≢true t)
 
 module _ (s : Session) (f buffer : List ℕ) where
-  refused : (cause : Cause) → exchange s f buffer .0 .reply ≡ Refused cause → Rejected cause s f buffer (exchange s f buffer)
+  when-refused : (cause : Cause) → exchange s f buffer .0 .reply ≡ Refused cause → Rejected cause s f buffer (exchange s f buffer)
   unfolding written
-  refused cause e = elim (decLt (length buffer) 40) [
+  when-refused cause e = elim (decLt (length buffer) 40) [
     | yes l ↦
         let short : Refused ShortBuffer ≡ Refused cause = rw (no-room s f buffer l) at e in
         let same : ShortBuffer ≡ cause = cc in
@@ -54,9 +54,9 @@ module _ (s : Session) (f buffer : List ℕ) where
       let few : length w ≤ 16 = omega (arith, length-take (x .session .n) (x .session .window), handle-length s f t) in
       bytes-long (isSecond f) _ (x .reply) _ (x .session .done) (padded w) (length-padded w few)
 
-  accepts : accepted (exchange s f buffer .0 .reply) ≡ true → AcceptedFrame f buffer (exchange s f buffer)
+  when-accepted : accepted (exchange s f buffer .0 .reply) ≡ true → AcceptedFrame f buffer (exchange s f buffer)
   unfolding accepted written answerTo
-  accepts t = elim (decLt (length buffer) 40) [
+  when-accepted t = elim (decLt (length buffer) 40) [
     | yes l ↦ absurd (false≢true (rw (no-room s f buffer l) at t))
     | no l ↦
         let long : 40 ≤ length buffer = omega arith in
@@ -72,13 +72,13 @@ module _ (s : Session) (f buffer : List ℕ) where
   ]
 
 pub every-frame : EveryFrame
-every-frame = record { refused = refused; accepts = accepts }
+every-frame = record { when-refused = when-refused; when-accepted = when-accepted }
 
 pub every-frame-instance : EveryFrameInstance
 unfolding beginning asking lent odd leftReference beginning17 fresh exchange
 every-frame-instance = record {
-  refused-begin = refused leftReference beginning17 (lent 41) WindowLength refl;
+  refused-begin = when-refused leftReference beginning17 (lent 41) WindowLength refl;
   refused-bytes = refl;
-  refused-query = refused odd asking (lent 40) NotBegun refl;
-  accepted-query = accepts leftReference asking (lent 41) refl;
+  refused-query = when-refused odd asking (lent 40) NotBegun refl;
+  accepted-query = when-accepted leftReference asking (lent 41) refl;
 }

@@ -25,9 +25,9 @@ pub record AcceptedFrame (f buffer : List ℕ) (o : Outcome) : Type 0 where
 
 -- "A refused frame carries the listed number, leaves the session as it was, and touches only the answer bytes named for it"; and its twin.
 pub record EveryFrame : Type 0 where
-  pub refused : (s : Session) (f buffer : List ℕ) (cause : Cause) → exchange s f buffer .0 .reply ≡ Refused cause →
+  pub when-refused : (s : Session) (f buffer : List ℕ) (cause : Cause) → exchange s f buffer .0 .reply ≡ Refused cause →
       Rejected cause s f buffer (exchange s f buffer)
-  pub accepts : (s : Session) (f buffer : List ℕ) → accepted (exchange s f buffer .0 .reply) ≡ true →
+  pub when-accepted : (s : Session) (f buffer : List ℕ) → accepted (exchange s f buffer .0 .reply) ≡ true →
       AcceptedFrame f buffer (exchange s f buffer)
 
 -- a begin frame of a round of 17 symbols, to a session in a round, into 41 bytes
