@@ -227,10 +227,10 @@ struct wko_loaded wko_load_levels(struct wko_session session, const uint8_t *fil
  *
  * A step frame numbered done + 1 steps; one numbered done, at least 1, is a resend: it changes nothing and gets the same answer.
  *
- * For hosts, of which the README says more under that name. A window is the last n sweeps, and a step answers its newest symbol alone: so the last
- * n - 1 symbols of the start window are played and measured before step 1, at the levels that wko_level gives (wko_frames.h), or the windows after
- * steps 1 to n - 1 are never measured whole. A step counts when its own answer has come, which wko_is_step_answer tells, and its level has been
- * measured and logged; until then it is sent again, whatever else comes. A refusal does not say which frame it refuses.
+ * For hosts (the README has all rules). A window is the last n sweeps, and a step answers its newest symbol alone. So the last n - 1 symbols of the
+ * start window are played and measured before step 1, at the levels that wko_level gives (wko_frames.h); otherwise the windows after steps 1 to
+ * n - 1 are never measured whole. A step counts when its own answer has come, which wko_is_step_answer tells, and its level has been measured
+ * and logged; until then it is sent again, whatever else comes. A refusal does not say which frame it refuses.
  *
  * The round number of a WKO2 frame is 1 to 255; 0 is refused (5). A round is stepped and queried by frames of the version that began it (17),
  * and in WKO2 by steps with its number alone (18): a step that comes late, when another round has begun, moves nothing. A WKO1 begin frame
