@@ -1,24 +1,22 @@
 -- A record is an event, and a run of records a list of events. Assumes nothing.
+use mathlib.Core.Bool.{Bool, true, false}
 use mathlib.Core.List.{List, [], _∷_, _++_}
 use mathlib.Core.Path.{_≡_, refl, ap, _∙_}
 use Prim.Native.Nat.{ℕ, _+_, _≤_}
 use native.Mathlib.Omega.{arith}
 use lib.ListN.{length-append}
 use Rattle.stepper.specs.declared.session.Session.{Session}
-use Rattle.stepper.specs.Exchange.{fresh, exchange, loadLevels}
+use Rattle.stepper.specs.Exchange.{fresh}
 use Rattle.stepper.specs.ExactlyOnce.{Event, question, levelFile, next, after}
-use Rattle.records.specs.Answered.{numbered, Comes, Reached}
+use Rattle.records.specs.Answered.{answered, Comes, Reached}
 
-pub frame-comes : (s t : Session) (f buffer out : List ℕ) → (t, out) ≡ numbered (exchange s f buffer) → Comes s t
+pub record-comes : (file : Bool) (s t : Session) (bytes buffer out : List ℕ) → (t, out) ≡ answered file s bytes buffer → Comes s t
 unfolding next
-frame-comes s t f buffer out e = record {
-  event = question (record { frame = f; buffer = buffer });
+record-comes true s t bytes buffer out e = record { event = levelFile bytes; left = ap (λ (p : Session × List ℕ). p .0) e }
+record-comes false s t bytes buffer out e = record {
+  event = question (record { frame = bytes; buffer = buffer });
   left = ap (λ (p : Session × List ℕ). p .0) e;
 }
-
-pub file-comes : (s t : Session) (f buffer out : List ℕ) → (t, out) ≡ numbered (loadLevels s f, buffer) → Comes s t
-unfolding next
-file-comes s t f buffer out e = record { event = levelFile f; left = ap (λ (p : Session × List ℕ). p .0) e }
 
 -- an event more, at the end of a list
 after-more : (s : Session) (l : List Event) (e : Event) → after s (l ++ (e ∷ [])) ≡ next (after s l) e

@@ -5,7 +5,7 @@ ghost use mathlib.Core.Path.{_≡_};
 ghost use Prim.Native.Nat.{_≤_, _<_};
 ghost use lib.ListN.{length, drop};
 ghost use Rattle.stepper.specs.Exchange.{exchange, loadLevels};
-ghost use Rattle.records.specs.Answered.{numbered, Comes, Reached};
+ghost use Rattle.records.specs.Answered.{numbered, answered, Comes, Reached};
 use frames::answer;
 use libc::STDERR_FILENO;
 use libc::STDOUT_FILENO;
@@ -111,15 +111,26 @@ fn answer_file(session: Session, file: &[u8], out: &mut [u8]) -> Session
     put_number(x, out)
 }
 
-// A frame that fills its slice, answered in `out`, which is what is written.
-fn play_frame_in(name: &[u8], session: Session, frame: &mut [u8], out: &mut [u8]) -> Played
+// What a record holds, answered: a level file, or a frame.
+fn answer(session: Session, file: bool, bytes: &[u8], out: &mut [u8]) -> Session
     requires { ⌜ 1 ≤ length (now out) ⌝ }
-    ensures { λ r. ⌜ (r .more ≡ true → (r .session, now (out .exit)) ≡ numbered (exchange session (now (frame .exit)) (drop 1 (now (out .entry))))) ⌝ }
+    ensures { λ r. ⌜ (r, now (out .exit)) ≡ answered file session (now (bytes .entry)) (drop 1 (now (out .entry))) ⌝ }
 {
-    if !read_part(name, frame, false) {
+    if file {
+        return answer_file(session, bytes, out);
+    }
+    answer_frame(session, bytes, out)
+}
+
+// A level file or a frame that fills its slice, answered in `out`, which is what is written.
+fn play_in(name: &[u8], session: Session, file: bool, bytes: &mut [u8], out: &mut [u8]) -> Played
+    requires { ⌜ 1 ≤ length (now out) ⌝ }
+    ensures { λ r. ⌜ (r .more ≡ true → (r .session, now (out .exit)) ≡ answered file session (now (bytes .exit)) (drop 1 (now (out .entry)))) ⌝ }
+{
+    if !read_part(name, bytes, false) {
         return ended(session);
     }
-    let next = answer_frame(session, frame, out);
+    let next = answer(session, file, bytes, out);
     write_answer(name, out, next)
 }
 
@@ -136,19 +147,7 @@ fn play_frame(name: &[u8], session: Session, first: bool) -> Played
     let mut frame = io::buffer();
     let mut out = filled();
     let end = 1 + room;
-    play_frame_in(name, session, &mut frame[..length], &mut out[..end])
-}
-
-// A level file that fills its slice, answered in `out`, which is what is written.
-fn play_file_in(name: &[u8], session: Session, file: &mut [u8], out: &mut [u8]) -> Played
-    requires { ⌜ 1 ≤ length (now out) ⌝ }
-    ensures { λ r. ⌜ (r .more ≡ true → (r .session, now (out .exit)) ≡ numbered (loadLevels session (now (file .exit)), drop 1 (now (out .entry)))) ⌝ }
-{
-    if !read_part(name, file, false) {
-        return ended(session);
-    }
-    let next = answer_file(session, file, out);
-    write_answer(name, out, next)
+    play_in(name, session, false, &mut frame[..length], &mut out[..end])
 }
 
 // A record of a level file, from its length on. The buffer has room for any length that two bytes can say.
@@ -164,7 +163,7 @@ fn play_file(name: &[u8], session: Session) -> Played
     let length = low + 256 * high;
     let mut file = io::large_buffer();
     let mut out = [0u8; 1];
-    play_file_in(name, session, &mut file[..length], &mut out)
+    play_in(name, session, true, &mut file[..length], &mut out)
 }
 
 // A record of a frame or of a level file, by its first byte.

@@ -1,11 +1,11 @@
 -- `play_file`: two bytes say at most 65535, and the buffer has room for that. Assumes nothing.
-use mathlib.Core.Bool.{false≢true}
+use mathlib.Core.Bool.{true, false≢true}
 use mathlib.Core.Path.{_≡_, sym, _∙_}
 use native.Mathlib.Omega.{arith}
 use lib.ListN.{length}
 use lib.Seq.{length-take-le}
 use borrow.Author.Needs.{needs}
-use Rattle.records.proofs.Reaching.{file-comes}
+use Rattle.records.proofs.Reaching.{record-comes}
 use Rattle.records.proofs.play_file.Statement.{statement}
 use Rattle.records.proofs.play_file.Tie as tie
 
@@ -45,22 +45,22 @@ large-buffer-requires c κs = search needs
 array-borrow-prefix-file : tie.Need-array-borrow-prefix-file
 array-borrow-prefix-file c = search needs
 
-slice-aggregate-play-file-in : tie.Need-slice-aggregate-play-file-in
-slice-aggregate-play-file-in c =
+slice-aggregate-play-in : tie.Need-slice-aggregate-play-in
+slice-aggregate-play-in c =
     let b = c .before .large-buffer in
     let low = c .before .before .before .wide in
     let high = c .before .before .wide2 in
     let l : length (b .result) ≡ 65536 = search needs in
     sym (length-take-le _ (b .result) (omega (arith, low .ensures, high .ensures)))
 
-slice-aggregate-play-file-in-2 : tie.Need-slice-aggregate-play-file-in-2
-slice-aggregate-play-file-in-2 c = search needs
+slice-aggregate-play-in-2 : tie.Need-slice-aggregate-play-in-2
+slice-aggregate-play-in-2 c = search needs
 
-play-file-in-requires : tie.Need-play-file-in-requires
-play-file-in-requires c κs = search needs
+play-in-requires : tie.Need-play-in-requires
+play-in-requires c κs = search needs
 
 returns-2 : tie.Need-returns-2
-returns-2 c = λ t. file-comes _ _ _ _ _ (c .before .before .play-file-in .ensures t)
+returns-2 c = λ t. record-comes true _ _ _ _ _ (c .before .before .play-in .ensures t)
 
 pub play-file-spec : {M : Type 1} → statement M
 play-file-spec =
@@ -78,7 +78,7 @@ play-file-spec =
     add-length
     large-buffer-requires
     array-borrow-prefix-file
-    slice-aggregate-play-file-in
-    slice-aggregate-play-file-in-2
-    play-file-in-requires
+    slice-aggregate-play-in
+    slice-aggregate-play-in-2
+    play-in-requires
     returns-2)

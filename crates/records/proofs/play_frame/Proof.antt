@@ -1,12 +1,12 @@
 -- `play_frame`: the parts of the two buffers have the lengths asked for. Assumes nothing.
-use mathlib.Core.Bool.{false≢true}
+use mathlib.Core.Bool.{false, false≢true}
 use mathlib.Core.Path.{_≡_, sym, _∙_}
 use Prim.Native.Nat.{_+_}
 use native.Mathlib.Omega.{arith}
 use lib.ListN.{length}
 use lib.Seq.{length-take-le}
 use borrow.Author.Needs.{needs}
-use Rattle.records.proofs.Reaching.{frame-comes}
+use Rattle.records.proofs.Reaching.{record-comes}
 use Rattle.records.proofs.play_frame.Statement.{statement}
 use Rattle.records.proofs.play_frame.Tie as tie
 
@@ -46,8 +46,8 @@ add-end c = search needs
 array-borrow-prefix-frame : tie.Need-array-borrow-prefix-frame
 array-borrow-prefix-frame c = search needs
 
-slice-aggregate-play-frame-in : tie.Need-slice-aggregate-play-frame-in
-slice-aggregate-play-frame-in c =
+slice-aggregate-play-in : tie.Need-slice-aggregate-play-in
+slice-aggregate-play-in c =
     let n = c .before .before .before .wide2 in
     let b = c .before .before .buffer in
     let l : length (b .result) ≡ 4096 = search needs in
@@ -56,22 +56,22 @@ slice-aggregate-play-frame-in c =
 array-borrow-prefix-out : tie.Need-array-borrow-prefix-out
 array-borrow-prefix-out c = search needs
 
-slice-aggregate-play-frame-in-2 : tie.Need-slice-aggregate-play-frame-in-2
-slice-aggregate-play-frame-in-2 c =
+slice-aggregate-play-in-2 : tie.Need-slice-aggregate-play-in-2
+slice-aggregate-play-in-2 c =
     let n = c .before .before .before .before .before .wide in
     let b = c .before .before .filled in
     let l : length (b .result) ≡ 256 = search needs in
     sym (length-take-le (1 + n .result) (b .result) (omega (arith, n .ensures)))
 
-play-frame-in-requires : tie.Need-play-frame-in-requires
-play-frame-in-requires c κs =
+play-in-requires : tie.Need-play-in-requires
+play-in-requires c κs =
     let n = c .before .before .before .before .before .wide in
     let b = c .before .before .filled in
     let l : length (b .result) ≡ 256 = search needs in
     omega (arith, length-take-le (1 + n .result) (b .result) (omega (arith, n .ensures)))
 
 returns-2 : tie.Need-returns-2
-returns-2 c = λ t. frame-comes _ _ _ _ _ (c .before .before .play-frame-in .ensures t)
+returns-2 c = λ t. record-comes false _ _ _ _ _ (c .before .before .play-in .ensures t)
 
 pub play-frame-spec : {M : Type 1} → statement M
 play-frame-spec =
@@ -89,8 +89,8 @@ play-frame-spec =
     filled-requires
     add-end
     array-borrow-prefix-frame
-    slice-aggregate-play-frame-in
+    slice-aggregate-play-in
     array-borrow-prefix-out
-    slice-aggregate-play-frame-in-2
-    play-frame-in-requires
+    slice-aggregate-play-in-2
+    play-in-requires
     returns-2)

@@ -1,9 +1,9 @@
--- `play_file_in`: what is written is what `answer_file` left. Assumes nothing.
+-- `play_in`: what is written is what `answer` left. Assumes nothing.
 use mathlib.Core.Bool.{false≢true}
 use mathlib.Core.Path.{sym, _∙_}
 use borrow.Author.Needs.{needs}
-use Rattle.records.proofs.play_file_in.Statement.{statement}
-use Rattle.records.proofs.play_file_in.Tie as tie
+use Rattle.records.proofs.play_in.Statement.{statement}
+use Rattle.records.proofs.play_in.Tie as tie
 
 read-part-requires : tie.Need-read-part-requires
 read-part-requires c κs = search needs
@@ -17,8 +17,8 @@ same-length c = search needs
 returns : tie.Need-returns
 returns c = λ t. absurd (false≢true (sym (c .ended .ensures) ∙ t))
 
-answer-file-requires : tie.Need-answer-file-requires
-answer-file-requires c κs = search needs
+answer-requires : tie.Need-answer-requires
+answer-requires c κs = search needs
 
 write-answer-requires : tie.Need-write-answer-requires
 write-answer-requires c κs = search needs
@@ -30,17 +30,17 @@ same-length-3 : tie.Need-same-length-3
 same-length-3 c = search needs
 
 returns-2 : tie.Need-returns-2
-returns-2 c = λ t. rw (c .write-answer .ensures) (c .before .before .before .before .answer-file .ensures)
+returns-2 c = λ t. rw (c .write-answer .ensures) (c .before .before .before .before .answer .ensures)
 
-pub play-file-in-spec : {M : Type 1} → statement M
-play-file-in-spec =
+pub play-in-spec : {M : Type 1} → statement M
+play-in-spec =
     tie.close
     (tie.spec
     read-part-requires
     ended-requires
     same-length
     returns
-    answer-file-requires
+    answer-requires
     write-answer-requires
     same-length-2
     same-length-3
