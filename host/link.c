@@ -185,7 +185,7 @@ static int take_step(struct link *link, uint64_t k, struct wko_answer *answer)
     return 0;
 }
 
-/* Asks by a query, at the end of the round, whether the device is still in it. */
+/* Asks by a query, at the end of the round, whether the device is still in it. A late answer to another query would say so too. */
 static void confirm_end(struct link *link)
 {
     uint8_t frame[WKO_FRAME_LEN];

@@ -99,6 +99,7 @@ static int begin(struct link *link, struct host *host)
     host->number++;
     host->sweeps = 0;
     begun++;
+    /* the bench loads its table anew, since the device may have lost it */
     memcpy(link->device.held, host->setting.table, sizeof host->setting.table);
     wko_build_begin(frame, host->n, host->rule, host->setting, host->start);
     wko_set_round(frame, host->number);

@@ -1,5 +1,5 @@
 #!/bin/sh
-# host/link.c meets every weak order. Hosts that differ from it in one rule do not: each is made from it here, and must not end well.
+# host/link.c meets every weak order. Hosts that break its rules do not: each is made from it here, and must not end well.
 set -eu
 room=$(mktemp -d)
 trap 'rm -rf "$room"' EXIT
@@ -32,7 +32,8 @@ wrong "on refusal 11 the host asks how far the device is, and goes on behind tha
         }'
 wrong "a host that starts again asks how far the device is, and goes on behind that" "8 of 13 weak orders met once;" \
   's/done = steps_logged(&log)/done = link.session.done/'
-# these two log what they measure wherever the tone is; the first has a device that does not lose power
+# These two log what they measure wherever the tone is. The first needs that, since a look at the tone would tell it of the wrong answer; its device does
+# not lose power, so that this answer alone makes it fail.
 wrong "an answer is taken by its round and its steps done" "13 of 13 weak orders met once, not all at their level;" '
 s/if (wko_is_step_answer(.*$/if (answer->refusal == 0 \&\& answer->round == ROUND \&\& answer->done == k)/
 s/if (link->tone != answer->level)/if (0)/
@@ -41,4 +42,4 @@ wrong "what is measured is logged, wherever the tone is" "11 of 13 weak orders m
   's/if (link->tone != answer->level)/if (0)/'
 wrong "the start window is not played" "11 of 13 weak orders met once;" \
   '/^    play_start(&log);$/d; s/CRASH = 8/CRASH = 0/'
-echo "hosts: $count that break a rule of the README's, and none of them measures every weak order at its levels"
+echo "hosts: $count that break the README's rules, and none of them measures every weak order at its levels"

@@ -23,7 +23,8 @@ pub record AcceptedFrame (f buffer : List ℕ) (o : Outcome) : Type 0 where
   pub front : take 5 (o .1) ≡ headerFor (isSecond f) ++ (0 ∷ [])
   pub rest : drop 40 (o .1) ≡ drop 40 buffer
 
--- "A refused frame carries the listed number, leaves the session as it was, and touches only the answer bytes named for it"; and its twin.
+-- A refused frame gets the number of its cause, leaves the session as it was, and touches only the bytes that the table names; and what an accepted
+-- one touches.
 pub record EveryFrame : Type 0 where
   pub when-refused : (s : Session) (f buffer : List ℕ) (cause : Cause) → exchange s f buffer .0 .reply ≡ Refused cause →
       Rejected cause s f buffer (exchange s f buffer)
