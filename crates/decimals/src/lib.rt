@@ -1,5 +1,7 @@
 // Readers of decimals, of lists of them and of fields (document 01, "The printed round"). Each looks at the start of a slice, and says how
 // many bytes it took. They are the only ones in the project; lines are read in sheets and in level_files.
+#![tactic(auto)]
+
 ghost use Rattle.std.specs.Prelude.{◌≡◌, ◌-◌, ◌≤◌, ◌<◌, pos, negsuc, length, drop};
 ghost use Rattle.decimals.specs.Reading.{missing, begins_with, starts_with, is_digit, run, Digits, value, ended, number, negative};
 ghost use Rattle.decimals.specs.Reading.{signed_number, numbers};

@@ -1,5 +1,7 @@
 // Level files: a customer's own sixteen levels, as a text.
 // Rests on decimals for the readers of fields, and on levels for what a table may hold.
+#![tactic(auto)]
+
 ghost use Rattle.std.proofs.Math.Option.{none};
 ghost use Rattle.std.specs.Prelude.{◌≡◌};
 ghost use Rattle.decimals.specs.Held.{signed_of};

@@ -1,5 +1,7 @@
 // The level setting of a round, and the level of a symbol. The only crate that knows how a level is made.
 // Rests on weak_orders for test 6, and on successors for the form that a rule's windows have.
+#![tactic(auto)]
+
 pub mod table;
 
 ghost use Rattle.std.specs.Prelude.{◌&&◌, ◌≡◌, ◌<◌, ◌^◌};

@@ -1,6 +1,8 @@
 // The printed round, page by page: the opening, and then lines into a lent slice, as many as have room.
 // Rests on sheets for what becomes of a sheet, on successors for the steps, on levels, and on ranking for a(n). Writes slices only; the
 // program `round` does the input and output.
+#![tactic(auto)]
+
 mod writer;
 
 ghost use Rattle.std.specs.Prelude.{true, ◌≡◌, ◌+◌, ◌≤◌, ◌<◌, length, take};

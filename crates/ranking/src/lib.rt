@@ -1,6 +1,8 @@
 // The numbers a(n) and L(n, k) of weak orders, and the places of height windows in dictionary order (document 01, "Windows" and
 // "Place"). Rests on weak_orders. Completions of a prefix are counted, never listed. Knows no rule and no session; a rank window has
 // the place of its heights, and is converted by the caller.
+#![tactic(auto)]
+
 ghost use Rattle.std.specs.Prelude.{cond, true, ◌&&◌, ◌≡◌, max, ◌+◌, ◌-◌, ◌^◌, ◌≤◌, ◌<◌, leb, get_or, take};
 ghost use Rattle.weak_orders.specs.Converted.{is_height_window};
 ghost use Rattle.weak_orders.specs.Window.{padded, bound};

@@ -1,5 +1,7 @@
 // Why a frame, a call, a sheet or a level file is turned down: document 01's table of refusals with document 02's behind it, once for all crates.
 // Rests on nothing. What is left as it was is for each caller's contract to say.
+#![tactic(auto)]
+
 ghost use Rattle.std.specs.Prelude.{◌≡◌};
 ghost use Rattle.refusals.specs.Numbers.{cause_number};
 

@@ -2,6 +2,8 @@
 // different.
 // Rests on weak_orders for windows, and knows no rule.
 // A window is an array of 16 by value with n beside; the symbols past n are not looked at.
+#![tactic(auto)]
+
 ghost use Rattle.std.specs.Prelude.{cond, List, ◌≡◌, ℕ, ◌≤◌, ◌<◌, length, take, get_or};
 ghost use Rattle.weak_orders.specs.Window.{padded};
 ghost use Rattle.rotations.specs.Order.{compared};

@@ -3,6 +3,8 @@
 // back, and on refusals for causes. That the steps of a rule go through every weak order once is shown in universal_cycle; this crate knows no
 // session.
 // A window passes by value, as an array of 16 with n beside.
+#![tactic(auto)]
+
 mod height_rules;
 mod rank_rule;
 

@@ -1,6 +1,8 @@
 // The C interface: direct calls on numbers and byte slices, declared in include/wko.h.
 // A thin layer over weak_orders, ranking, filling and successors: it loads the window, calls, and copies the answer out. The frame call for
 // firmware is in the module session.
+#![tactic(auto)]
+
 pub mod session;
 
 ghost use Rattle.std.specs.Prelude.{cond, ◌++◌, ◌≡◌, ◌≤◌, ltb, length, take, drop};

@@ -8,7 +8,7 @@ use borrow.Author.Rules.{rules}
 use borrow.Author.Tests.{not-true, not-false}
 use lib.ListN.{length, take, drop, get_or}
 use Rattle.weak_orders.specs.Window.{all, range, occurs}
-use Rattle.weak_orders.proofs.Lists.{length-range, get_d_range}
+use Rattle.weak_orders.proofs.Lists.{length-range, get_or_range}
 use Rattle.successors.proofs.Scans.{scan_passes, scan_fails, scan_ends, take_range}
 use Rattle.successors.proofs.height_rules.all_behind.Statement.{statement}
 use Rattle.successors.proofs.height_rules.all_behind.Tie as tie
@@ -32,7 +32,7 @@ here-v : (c : tie.After-occurs-behind invariant-loop decreases-loop) →
     occurs (tail p.before) (get_or (range p.before.args.x) p.loop.v 0) ≡ c.occurs-behind.result
 here-v c =
     let p = c.before.before in
-    rw (get_d_range p.before.args.x p.loop.v (omega arith)) (sym c.occurs-behind.ensures)
+    rw (get_or_range p.before.args.x p.loop.v (omega arith)) (sym c.occurs-behind.ensures)
 
 loop-holds : tie.Need-loop-init invariant-loop decreases-loop
 loop-holds c = rw (take_range c.args.x)

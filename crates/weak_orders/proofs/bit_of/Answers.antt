@@ -7,22 +7,14 @@ use lib.Dec.{lit<}
 use lib.Pow.{shl_exact}
 use Rattle.weak_orders.specs.Tables.{bit_of}
 use borrow.Author.Rules.{rules}
-use Rattle.weak_orders.proofs.bit_of.Statement.{statement}
-use Rattle.weak_orders.proofs.bit_of.Tie as tie
+use Rattle.weak_orders.proofs.bit_of.Goals as goal
 
-shl-result : tie.Need-overflow-shl-result
-shl-result c = search rules
-
-returns : tie.Need-returns
+pub returns-then-v-lt31 : goal.returns-then-v-lt31
 unfolding bit_of
-returns c =
-    let v = c.before.args.v in
+returns-then-v-lt31 c = let v = c.args.v in
     let e : min v 31 ≡ v = omega arith in
     rw e (shl_exact {a = 1} 1 v 32 (lit< tt) (omega arith) ∙ one-mul (2 ^ v))
 
-returns-2 : tie.Need-returns-2
+pub returns-else-v-lt31 : goal.returns-else-v-lt31
 unfolding bit_of
-returns-2 c = let e : min c.before.args.v 31 ≡ 31 = omega arith in rw e
-
-pub bit-of-spec : {M : Type 1} → statement M
-bit-of-spec = tie.close (tie.spec shl-result returns returns-2)
+returns-else-v-lt31 c = let e : min c.args.v 31 ≡ 31 = omega arith in rw e
