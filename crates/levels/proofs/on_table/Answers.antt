@@ -7,15 +7,10 @@ use mir.Val.{SFits}
 use borrow.Author.Rules.{rules}
 use Rattle.levels.specs.Level.{on_table}
 use Rattle.levels.proofs.Sizes.{zero_bits}
-use Rattle.levels.proofs.on_table.Statement.{statement}
-use Rattle.levels.proofs.on_table.Tie as tie
+use Rattle.levels.proofs.on_table.Goals as goal
 
-returns : tie.Need-returns
+pub returns : goal.returns
 unfolding on_table
-returns c =
-    let s = c.before.args.setting in
+returns c = let s = c.args.setting in
     let fits : SFits w16 s.top = search rules in
     ap (λ b. b && eqb s.spacing 0) (zero_bits s.top fits)
-
-pub on-table-spec : {M : Type 1} → statement M
-on-table-spec = tie.close (tie.spec returns)

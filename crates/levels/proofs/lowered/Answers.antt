@@ -8,55 +8,47 @@ use mir.Val.{SFits}
 use borrow.Author.Rules.{rules}
 use Rattle.levels.specs.Level.{lowered}
 use Rattle.levels.proofs.Sizes.{drop_size, lowered_size}
-use Rattle.levels.proofs.lowered.Statement.{statement}
-use Rattle.levels.proofs.lowered.Tie as tie
+use Rattle.levels.proofs.lowered.Goals.{Start}
+use Rattle.levels.proofs.lowered.Goals as goal
 
-top-fits : (s : tie.Start) → SFits w16 s.args.setting.top
+top-fits : (s : Start) → SFits w16 s.args.setting.top
 top-fits s = search rules
 
-spacing-below : (s : tie.Start) → s.args.setting.spacing < 65536
+spacing-below : (s : Start) → s.args.setting.spacing < 65536
 spacing-below s = let q : s.args.setting.spacing < 2 ^ 16 = search rules in omega arith
 
-count-below : (s : tie.Start) → s.args.count < 256
+count-below : (s : Start) → s.args.count < 256
 count-below s = let p : s.args.count < 2 ^ 8 = search rules in omega arith
 
-below : (s : tie.Start) → s.args.count * s.args.setting.spacing ≤ 255 * 65535
+below : (s : Start) → s.args.count * s.args.setting.spacing ≤ 255 * 65535
 below s = drop_size s.args.count s.args.setting.spacing (count-below s) (spacing-below s)
 
-level-fits : (s : tie.Start) → SFits w32 (s.args.setting.top -ℤ pos (s.args.count * s.args.setting.spacing))
+level-fits : (s : Start) → SFits w32 (s.args.setting.top -ℤ pos (s.args.count * s.args.setting.spacing))
 unfolding lowered
 level-fits s =
     let size = lowered_size s.args.setting s.args.count (omega (arith, (top-fits s).sfits)) (spacing-below s) (count-below s) in
     record { sfits = omega (arith, size) }
 
-cast-drop : tie.Need-overflow-cast-drop
-cast-drop c = search rules
+pub overflow_mul-drop : goal.overflow_mul-drop
+overflow_mul-drop c = record { fits = omega (arith, below (goal.at.overflow_mul-drop c).Start) }
 
-mul-drop : tie.Need-overflow-mul-drop
-mul-drop c = record { fits = omega (arith, below c.before) }
+pub overflow_cast-result : goal.overflow_cast-result
+overflow_cast-result c = rw (to_z-of_z (top-fits (goal.at.overflow_cast-result c).Start)) (sfits_widen tt (top-fits (goal.at.overflow_cast-result c).Start))
 
-cast-result : tie.Need-overflow-cast-result
-cast-result c = rw (to_z-of_z (top-fits c.before)) (sfits_widen tt (top-fits c.before))
+pub overflow_cast-result-2 : goal.overflow_cast-result-2
+overflow_cast-result-2 c = record { sfits = omega (arith, below (goal.at.overflow_cast-result-2 c).Start) }
 
-cast-result-2 : tie.Need-overflow-cast-result-2
-cast-result-2 c = record { sfits = omega (arith, below c.before) }
-
-sub-result : tie.Need-overflow-sub-result
-sub-result c =
-    let s = c.before in
+pub overflow_sub-result : goal.overflow_sub-result
+overflow_sub-result c = let s = (goal.at.overflow_sub-result c).Start in
     let h = top-fits s in
     let e : SFits w32 s.args.setting.top = sfits_widen tt h in
     let d = to_z_pos w32 {n = s.args.count * s.args.setting.spacing} (omega (arith, below s)) in
     rw (to_z-of_z h, to_z-of_z e, d) (level-fits s)
 
-returns : tie.Need-returns
+pub returns : goal.returns
 unfolding lowered
-returns c =
-    let s = c.before in
+returns c = let s = (goal.at.returns c).Start in
     let h = top-fits s in
     let e : SFits w32 s.args.setting.top = sfits_widen tt h in
     let d = to_z_pos w32 {n = s.args.count * s.args.setting.spacing} (omega (arith, below s)) in
     rw (to_z-of_z h, to_z-of_z e, d, to_z-of_z (level-fits s))
-
-pub lowered-spec : {M : Type 1} → statement M
-lowered-spec = tie.close (tie.spec cast-drop mul-drop cast-result cast-result-2 sub-result returns)
