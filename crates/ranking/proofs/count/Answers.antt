@@ -1,8 +1,7 @@
 -- `count`: refused, or the list's entry. Assumes nothing.
 use mathlib.Core.Bool.{true}
 use mathlib.Core.Path.{◌≡◌, sym, ap, ◌∙◌}
-use borrow.Author.Rules.{rules}
-use borrow.Author.Tests.{not-true, not-false}
+use borrow.Author.Tests.{not-true}
 use Rattle.weak_orders.specs.Window.{is_length}
 use Rattle.ranking.specs.Answers.{counted}
 use Rattle.ranking.specs.declared.NumberAnswer.TheVariants.{Number}

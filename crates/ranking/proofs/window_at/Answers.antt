@@ -1,13 +1,12 @@
 -- `window_at`: each test's failure, or the window at a place below a(n). Assumes nothing.
 use mathlib.Core.Bool.{true}
 use mathlib.Core.Path.{◌≡◌, sym, ◌∙◌}
-use borrow.Author.Tests.{not-true, not-false}
+use borrow.Author.Tests.{not-true}
 use Rattle.weak_orders.specs.Converted.{answered}
 use Rattle.weak_orders.specs.Window.{is_length}
 use Rattle.weak_orders.proofs.FormTests.{says_length}
 use Rattle.ranking.specs.Answers.{located}
 use Rattle.ranking.proofs.Answered.{place-length, place_past, place-below, place_within}
-use borrow.Author.Rules.{rules}
 use Rattle.ranking.proofs.window_at.Goals.{Else-not-is_length}
 use Rattle.ranking.proofs.window_at.Goals as goal
 
