@@ -1,7 +1,6 @@
 -- `window_at`: each test's failure, or the window at a place below a(n). Assumes nothing.
 use mathlib.Core.Bool.{true}
 use mathlib.Core.Path.{◌≡◌, sym, ◌∙◌}
-use borrow.Author.Tests.{not-true}
 use Rattle.weak_orders.specs.Converted.{answered}
 use Rattle.weak_orders.specs.Window.{is_length}
 use Rattle.weak_orders.proofs.FormTests.{says_length}
@@ -17,7 +16,7 @@ pub returns-then-not-is_length : goal.returns-then-not-is_length
 unfolding located answered
 returns-then-not-is_length c = let a = c.args in
     let l = c.is_length in
-    rw (place-length a.n a.place (sym l.ensures ∙ not-true l.result c.if-not-is_length.true-raw)) c.refused.ensures
+    rw (place-length a.n a.place (sym l.ensures ∙ c.if-not-is_length.true)) c.refused.ensures
 
 pub returns-then-weak_order_count-place : goal.returns-then-weak_order_count-place
 unfolding located answered
