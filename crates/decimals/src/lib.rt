@@ -8,21 +8,21 @@ ghost use Rattle.decimals.specs.Reading.{signed_number, numbers};
 ghost use Rattle.decimals.specs.Held.{decimal_of, signed_of, decimals_of};
 
 // A decimal, and how many bytes it takes.
-#[derive(Drop)]
+#[derive(Clone, Copy)]
 pub enum Decimal {
     Number { value: u32, len: usize },
     NoNumber,
 }
 
 // A decimal that may be below zero.
-#[derive(Drop)]
+#[derive(Clone, Copy)]
 pub enum SignedDecimal {
     Number { value: i32, len: usize },
     NoNumber,
 }
 
 // Up to sixteen decimals joined by commas. An enum cannot hold the array.
-#[derive(Drop)]
+#[derive(Clone, Copy)]
 pub struct Decimals {
     pub found: bool,
     pub values: [u32; 16],

@@ -10,7 +10,7 @@ use sheets::sheet::Sheet;
 use sheets::{judge, sheet};
 
 // The faults of each cause in the order in which they are looked for.
-#[derive(Drop)]
+#[derive(Clone, Copy)]
 pub enum Fault {
     Nothing,
     // 14, the sheet is malformed

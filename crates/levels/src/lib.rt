@@ -11,7 +11,7 @@ ghost use Rattle.levels.specs.Level.{setting_of, spacings, lowered, nearest, rou
 
 // A level setting, in hundredths of a dBm: a top and a spacing, or the table where both are 0.
 #[repr(C)]
-#[derive(Drop)]
+#[derive(Clone, Copy)]
 pub struct Setting {
     pub top: i16,
     pub spacing: u16,

@@ -16,7 +16,7 @@ use refusals::Verdict;
 use sheets::judge::Judged;
 
 // Where the printing of a round stands: the window after `done` of `last` steps.
-#[derive(Drop)]
+#[derive(Clone, Copy)]
 pub struct Printing {
     pub n: usize,
     pub rule: u8,
@@ -27,7 +27,7 @@ pub struct Printing {
 }
 
 // Where it stands after a page, and how many bytes the page has.
-#[derive(Drop)]
+#[derive(Clone, Copy)]
 pub struct Page {
     pub printing: Printing,
     pub len: usize,

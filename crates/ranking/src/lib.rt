@@ -247,7 +247,7 @@ fn place_of(w: [u8; 16], n: usize) -> u64
 }
 
 // A symbol, and how many of the windows that have it stand before the one that is looked for.
-#[derive(Drop)]
+#[derive(Clone, Copy)]
 struct Next {
     symbol: u8,
     left: u64,
@@ -290,7 +290,7 @@ fn window_of(n: usize, place: u64) -> [u8; 16]
 }
 
 // A number for an answer, or why there is none.
-#[derive(Drop)]
+#[derive(Clone, Copy)]
 pub enum NumberAnswer {
     Number(u64),
     Refused(Cause),

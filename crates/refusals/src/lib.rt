@@ -6,7 +6,7 @@ ghost use Rattle.std.specs.Prelude.{◌≡◌};
 ghost use Rattle.refusals.specs.Numbers.{cause_number};
 
 // The causes in the order of document 01's table, "Turned down", and then those of document 02.
-#[derive(Drop)]
+#[derive(Clone, Copy)]
 pub enum Cause {
     ShortBuffer,
     FrameLength,
@@ -30,7 +30,7 @@ pub enum Cause {
 }
 
 // Whether a call or a sheet is accepted. A window that goes with it stands beside it, since an enum cannot hold an array.
-#[derive(Drop)]
+#[derive(Clone, Copy)]
 pub enum Verdict {
     Accepted,
     Refused(Cause),

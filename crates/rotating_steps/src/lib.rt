@@ -11,7 +11,7 @@ ghost use Rattle.rotating_steps.specs.Kinds.{rotates};
 ghost use Rattle.rotating_steps.specs.Tallied.{tallied};
 
 // The weak orders of n that a step of a rule rotates, and the others.
-#[derive(Drop)]
+#[derive(Clone, Copy)]
 pub struct Tally {
     pub same: u64,
     pub other: u64,

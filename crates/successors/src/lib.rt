@@ -61,7 +61,7 @@ pub fn judge(rule: u8, w: [u8; 16], n: usize) -> Verdict
 }
 
 // A symbol for an answer, or why there is none.
-#[derive(Drop)]
+#[derive(Clone, Copy)]
 pub enum Next {
     Symbol(u8),
     Refused(Cause),
@@ -118,7 +118,7 @@ pub fn previous_symbol(rule: u8, w: [u8; 16], n: usize) -> Next
 }
 
 // The rotation that a rule compares with, or why there is none.
-#[derive(Drop)]
+#[derive(Clone, Copy)]
 pub enum RotationAnswer {
     Found(Rotation),
     Refused(Cause),

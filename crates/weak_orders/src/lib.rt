@@ -223,7 +223,7 @@ pub fn judge(n: usize, formed: bool) -> Verdict
 }
 
 // A window for an answer. Refused, it is sixteen zeros.
-#[derive(Drop)]
+#[derive(Clone, Copy)]
 pub struct WindowAnswer {
     pub verdict: Verdict,
     pub window: [u8; 16],

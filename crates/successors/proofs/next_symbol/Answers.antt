@@ -20,19 +20,19 @@ abbrev window : Start → List ℕ
 window s = take s.args.n s.args.w
 
 -- another rule than 1, and a window that passed the tests
-module _ (c : tie.After-enum-told) where
-  abbrev start : tie.Start
-  start = c.before.before.before.before
+module _ (c : In-Accepted) where
+  abbrev start : Start
+  start = c.before.before.before
 
   passed : judged start.args.rule start.args.n (window start) ≡ Accepted
-  passed = sym c.before.before.judge.ensures ∙ c.enum_told.given.1
+  passed = sym c.judge-verdict.ensures ∙ c.in-Accepted.is
 
   in-heights : (1 ≤ start.args.n) × (start.args.n ≤ 16) × (is_height (window start) ≡ true)
   in-heights =
       let a = start.args in
       let (known, (long, form)) = steppable_of a.rule a.n a.w (search rules) passed in
       let (pos, le) = (says_length a.n).to long in
-      (pos, le, sym (form_height a.rule (window start) c.before.before.before.if1.false) ∙ form)
+      (pos, le, sym (form_height a.rule (window start) c.if-rule-eq1.false) ∙ form)
 
   follows : next_symbol start.args.rule start.args.n (window start) ≡ Symbol (rule_of start.args.rule (window start))
   unfolding next_symbol symbol_by

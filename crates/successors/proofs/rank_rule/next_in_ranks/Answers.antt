@@ -29,7 +29,7 @@ tested : (c : After-is_rank_table) → c.is_rank_table.result ≡ is_rank_window
 tested c =
     let s = c.before.before in
     let e : is_rank_table s.args.n c.counts-t.result ≡ is_rank_window s.args.n s.args.w =
-    rw c.counts-t.ensures.0 (rank_by_table s.args.w s.args.n (long s)) in
+    rw c.counts-t.ensures.value (rank_by_table s.args.w s.args.n (long s)) in
     c.is_rank_table.ensures ∙ e
 
 verdict : (c : After-judge-verdict) → let s = c.before.before.before in c.judge-verdict.result ≡ judged 1 s.args.n (window s)
@@ -39,19 +39,19 @@ verdict c =
     c.judge-verdict.ensures ∙ ap (judged_by s.args.n) (tested c.before)
     ∙ judged_array is_rank s.args.n s.args.w (long s) ∙ judged-ranks s.args.n (window s)
 
-passed : (c : In-Accepted) → let s = c.before.before.before.before.before in judged 1 s.args.n (window s) ≡ Accepted
-passed c = sym (verdict c.before.before) ∙ c.in-Accepted.is
+passed : (c : In-Accepted) → let s = c.before.before.before.before in judged 1 s.args.n (window s) ≡ Accepted
+passed c = sym (verdict c.before) ∙ c.in-Accepted.is
 
-follows : (c : In-Accepted) → let s = c.before.before.before.before.before in next_symbol 1 s.args.n (window s) ≡ Symbol (rule1 (window s))
+follows : (c : In-Accepted) → let s = c.before.before.before.before in next_symbol 1 s.args.n (window s) ≡ Symbol (rule1 (window s))
 unfolding next_symbol symbol_by
-follows c = rw (passed c, is_rule1 1 (window c.before.before.before.before.before) refl)
+follows c = rw (passed c, is_rule1 1 (window c.before.before.before.before) refl)
 
 pub successor1-s-requires : goal.successor1-s-requires
 successor1-s-requires c = let filled = c in
     let s = (goal.at.successor1-s-requires c).Start in
     let (known, (sized, form)) = steppable_of 1 s.args.n s.args.w (long s) (passed c) in
     let (pos, le) = (says_length s.args.n).to sized in
-    (pos, le, sym (form_rank 1 (window s) refl) ∙ form, filled.counts-t.ensures.0)
+    (pos, le, sym (form_rank 1 (window s) refl) ∙ form, filled.counts-t.ensures.value)
 
 pub returns-in-Accepted : goal.returns-in-Accepted
 returns-in-Accepted c = sym (follows (goal.at.returns-in-Accepted c).In-Accepted ∙ ap Symbol (sym c.successor1-s.ensures))

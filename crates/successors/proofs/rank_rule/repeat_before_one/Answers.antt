@@ -50,12 +50,12 @@ returns-then-v-p c _ k pos lt one = let p = c in
 
 pub loop-j-preserved : goal.loop-j-preserved
 loop-j-preserved c = let p = c in (
-      omega arith,
-      λ k pos lt one. elim (dec_lt k p.loop-j.j) [
-        | yes l ↦ p.loop-j.invariant.1 k pos l one
-        | no l ↦ let e : p.loop-j.j ≡ k = omega arith in c.if-v-eq1.false (rw e one)
-      ],
-    )
+  omega arith,
+  λ k pos lt one. elim (dec_lt k p.loop-j.j) [
+    | yes l ↦ p.loop-j.invariant.1 k pos l one
+    | no l ↦ let e : p.loop-j.j ≡ k = omega arith in c.if-v-eq1.false (rw e one)
+  ],
+)
 
 pub returns : goal.returns
 returns c f = absurd (false≢true f)
