@@ -8,7 +8,7 @@ use crate::field;
 use refusals::Cause;
 
 // What a frame is answered, and a level file. Only a step has a symbol and a level; the others have 0.
-#[derive(Drop)]
+#[derive(Clone, Copy)]
 pub enum Reply {
     Accepted { symbol: u8, level: i32 },
     Refused(Cause),
@@ -30,7 +30,7 @@ fn with_done(answer: [u8; 40], done: u64) -> [u8; 40]
 {
     let mut a = answer;
     let d = field::bytes_of(done);
-    bytes::copy(&d, &mut a[8..16]);
+    a[8..16].copy_from_slice(&d);
     a
 }
 

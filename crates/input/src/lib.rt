@@ -1,4 +1,6 @@
 // Standard input, read so that a read that fails is told from the input's end. io::read_full answers a short count for both.
+#![tactic(auto)]
+
 ghost use Rattle.io.specs.Counts.{IsPrefixLen};
 ghost use Rattle.input.specs.Filled.{Filled};
 

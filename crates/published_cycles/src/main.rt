@@ -1,5 +1,7 @@
 // The cycles that 002 prints for n = 3 and 4 under each of the three rules, gone through step by step from 1..1 or 0..0. A line has the
 // oldest symbol of each window until the start window comes again. stdout holds 002's own strings.
+#![tactic(auto)]
+
 use libc::STDOUT_FILENO;
 use successors::Next;
 

@@ -1,5 +1,7 @@
 // One session through the records of standard input: what the programs replay and replay_events do. Their sources say what a record is.
 // Rests on handler for what a record comes to, and on input for reads. `name` is the program's, for what it says on standard error.
+#![tactic(auto)]
+
 ghost use Rattle.std.specs.Prelude.{true, false, ◌≡◌, ◌≤◌, ◌<◌, length, drop};
 ghost use Rattle.stepper.specs.Exchange.{exchange, load_levels};
 ghost use Rattle.records.specs.Answered.{numbered, answered, Comes, Reached};

@@ -3,6 +3,8 @@
 // and then the whole answer buffer, which held 165 in every byte before. One session goes through all records, from fresh. The run ends
 // where the input ends between two records. It also ends at a record that is cut off, at a read or a write that fails and after a
 // million records if more follow, and then standard error says so.
+#![tactic(auto)]
+
 use records::Kind;
 
 fn main() {

@@ -1,6 +1,8 @@
 // Prints the round of a sheet (document 01, "The printed round"), or why the sheet is refused. The sheet is standard input.
 // What is printed is the library's, page by page. A read or a write that fails ends the run, and standard error says so; it also says in words
 // what is wrong with a refused sheet.
+#![tactic(auto)]
+
 use faults::Fault;
 use libc::{STDERR_FILENO, STDIN_FILENO, STDOUT_FILENO};
 use printing::Printing;

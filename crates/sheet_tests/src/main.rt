@@ -1,6 +1,8 @@
 // Sheets, good and bad, through the library. Standard input has for each its name and its text, each ended by `#`, and a line feed. For each
 // the program prints the name and what `round` prints for the text, of a long round the first page.
 // stdout was written from document 01 and not from this program: by host/sheet_answers.c, which reads a sheet by one pattern.
+#![tactic(auto)]
+
 ghost use Rattle.std.specs.Prelude.{◌≤◌, length};
 
 use libc::{STDIN_FILENO, STDOUT_FILENO};

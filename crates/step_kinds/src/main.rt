@@ -1,5 +1,7 @@
 // Prints for each rule how many weak orders of n = 1 to 8 are followed by the symbol that they drop, and how many by another (document 02,
 // Paper 7). The numbers are the library's. A write that fails ends the run, and standard error says so.
+#![tactic(auto)]
+
 use libc::STDOUT_FILENO;
 
 // Whether a number and the byte behind it were written. After a gap nothing is.
