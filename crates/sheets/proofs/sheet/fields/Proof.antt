@@ -79,7 +79,7 @@ returns c =
     let r = c.before.before.before in
     let s = r.before.before.args.s.now in
     let e = no_length_and_rule (length_and_rule s) (sym r.length-and-rule.ensures ∙ c.before.enum_told.given.1) in
-    c.no_lines_lem.ensures ∙ lines_missing s (no_first s e)
+    c.no_lines.ensures ∙ lines_missing s (no_first s e)
 
 sub-top-and-spacing : tie.Need-overflow-sub-top-and-spacing
 sub-top-and-spacing c = within₁ c

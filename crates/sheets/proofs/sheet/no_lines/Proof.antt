@@ -1,8 +1,8 @@
 -- `no_lines`: the answer where nothing is found. Assumes nothing.
 use Rattle.sheets.specs.Held.{lines_of}
 use borrow.Author.Rules.{rules}
-use Rattle.sheets.proofs.sheet.no_lines_lem.Statement.{statement}
-use Rattle.sheets.proofs.sheet.no_lines_lem.Tie as tie
+use Rattle.sheets.proofs.sheet.no_lines.Statement.{statement}
+use Rattle.sheets.proofs.sheet.no_lines.Tie as tie
 
 no-sheet-requires : tie.Need-no-sheet-requires
 no-sheet-requires c κs = search rules

@@ -43,7 +43,7 @@ returns : tie.Need-returns
 returns c =
     let t = c.before.before.has-title in
     let none = sym t.ensures ∙ not-true t.result c.before.if1.true in
-    c.no_lines_lem.ensures ∙ ap lines_of (sym (other_title _ none))
+    c.no_lines.ensures ∙ ap lines_of (sym (other_title _ none))
 
 sub-fields : tie.Need-overflow-sub-fields
 sub-fields c = long c

@@ -7,22 +7,13 @@ use mir.Syntax.{w32}
 use mir.Val.{SFits}
 use Rattle.decimals.proofs.Answers.{minus}
 use borrow.Author.Rules.{rules}
-use Rattle.decimals.proofs.negative.Statement.{statement}
-use Rattle.decimals.proofs.negative.Tie as tie
+use Rattle.decimals.proofs.negative.Goals as goal
 
-cast-result : tie.Need-overflow-cast-result
-cast-result c = search rules
-
-sub-result : tie.Need-overflow-sub-result
-sub-result c =
-    let v = c.args.v in
+pub overflow_sub-result : goal.overflow_sub-result
+overflow_sub-result c = let v = c.args.v in
     rw (to_z_pos w32 {n = v} (omega arith), minus v c.requires.0) (record { sfits = omega arith })
 
-returns : tie.Need-returns
-returns c =
-    let v = c.args.v in
+pub returns : goal.returns
+returns c = let v = c.args.v in
     let h : SFits w32 (negsuc (v - 1)) = record { sfits = omega arith } in
     rw (to_z_pos w32 {n = v} (omega arith), minus v c.requires.0, to_z-of_z h)
-
-pub negative-spec : {M : Type 1} → statement M
-negative-spec = tie.close (tie.spec cast-result sub-result returns)
