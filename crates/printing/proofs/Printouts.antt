@@ -90,7 +90,7 @@ page_reaches {r} {last} {k} {p} (suc left) room at = by_test (ltb room 128)
     let q = onward p in
     let line = at_line (at_onward at) in
     let t = page_of left (room - length (last_line q)) q in
-    let next = page_reaches left (room - length (last_line q)) (at_onward at) in
+    let next = page_reaches {k = suc k} left (room - length (last_line q)) (at_onward at) in
     rw e (record {
       to = next.to;
       at = next.at;
@@ -116,7 +116,7 @@ pages_join {r} {last} {k} {p} (room ∷ rooms) h at =
     let left : p.last - p.done ≡ last - k = omega (arith, at.done, at.end) in
     let (q, t) = page_of (p.last - p.done) room p in
     let one = page_reaches (p.last - p.done) room at in
-    let more = pages_join rooms (omega (arith, one.most)) one.at in
+    let more = pages_join {k = one.to} rooms (omega (arith, one.most)) one.at in
     rw ((says_steppable p.rule p.n p.window).of at.steps) (record {
       to = more.to;
       at = more.at;
