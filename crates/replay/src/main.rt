@@ -3,8 +3,16 @@
 // and then the whole answer buffer, which held 165 in every byte before. One session goes through all records, from fresh. The run ends
 // where the input ends between two records. It also ends at a record that is cut off, at a read or a write that fails and after a
 // million records if more follow, and then standard error says so.
-use records::Kind;
+#![tactic(auto)]
 
-fn main() {
-    records::run(b"replay", Kind::Frames);
+use records::{Kind, Streams};
+
+fn main(rt: HostRuntime) {
+    let mut streams = Streams {
+        name: b"replay",
+        input: rt.stdin(),
+        output: rt.stdout(),
+        errors: rt.stderr(),
+    };
+    streams.run(Kind::Frames);
 }
