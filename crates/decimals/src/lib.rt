@@ -1,26 +1,28 @@
 // Readers of decimals, of lists of them and of fields (document 01, "The printed round"). Each looks at the start of a slice, and says how
 // many bytes it took. They are the only ones in the project; lines are read in sheets and in level_files.
+#![tactic(auto)]
+
 ghost use Rattle.std.specs.Prelude.{◌≡◌, ◌-◌, ◌≤◌, ◌<◌, pos, negsuc, length, drop};
 ghost use Rattle.decimals.specs.Reading.{missing, begins_with, starts_with, is_digit, run, Digits, value, ended, number, negative};
 ghost use Rattle.decimals.specs.Reading.{signed_number, numbers};
 ghost use Rattle.decimals.specs.Held.{decimal_of, signed_of, decimals_of};
 
 // A decimal, and how many bytes it takes.
-#[derive(Drop)]
+#[derive(Clone, Copy)]
 pub enum Decimal {
     Number { value: u32, len: usize },
     NoNumber,
 }
 
 // A decimal that may be below zero.
-#[derive(Drop)]
+#[derive(Clone, Copy)]
 pub enum SignedDecimal {
     Number { value: i32, len: usize },
     NoNumber,
 }
 
 // Up to sixteen decimals joined by commas. An enum cannot hold the array.
-#[derive(Drop)]
+#[derive(Clone, Copy)]
 pub struct Decimals {
     pub found: bool,
     pub values: [u32; 16],

@@ -1,5 +1,7 @@
 // What is wrong with a sheet, finer than the number of its refusal: what a person is told.
 // Rests on sheets for the reader and the verdict, and on levels for the parts of test 9. The words are written by the program that prints them.
+#![tactic(auto)]
+
 ghost use Rattle.std.specs.Prelude.{◌≡◌};
 ghost use Rattle.faults.specs.Faults.{has_byte, ends_line, malformed, start_fault, setting_fault, refused_for, fault_of};
 
@@ -8,7 +10,7 @@ use sheets::sheet::Sheet;
 use sheets::{judge, sheet};
 
 // The faults of each cause in the order in which they are looked for.
-#[derive(Drop)]
+#[derive(Clone, Copy)]
 pub enum Fault {
     Nothing,
     // 14, the sheet is malformed

@@ -8,7 +8,7 @@ use native.Mathlib.Decide.{dec_lt}
 use lib.ListN.{get_or}
 use borrow.Author.Tests.{lt-ltb, le-ltb, not-true}
 use Rattle.weak_orders.specs.Window.{range, occurs, different, bound}
-use Rattle.weak_orders.proofs.Lists.{first_index_lem, first_index_none, of_range, length-range, get_d_range}
+use Rattle.weak_orders.proofs.Lists.{first_index_lem, first_index_none, of_range, length-range, get_or_range}
 use Rattle.weak_orders.proofs.Symbols.{in_occurs, height_gap, added_middle, bound_in, bound_middle, different-below, different≤bound}
 use Rattle.weak_orders.proofs.Symbols.{different-same, different_more}
 use Rattle.weak_orders.proofs.Tests.{by_test, bit, false→not_true}
@@ -25,14 +25,14 @@ module _ (w : List ℕ) where
       (least_missing w ≤ j) × (test (get_or (range (bound w)) (least_missing w) 0) ≡ true)
   unfolding least_missing
   least_up_to j lt o = first_index_lem test (range (bound w)) 0 j (omega (arith, length-range (bound w)))
-      (ap test (get_d_range (bound w) j lt) ∙ ap not o)
+      (ap test (get_or_range (bound w) j lt) ∙ ap not o)
 
   pub least_missing_lem : different w < bound w → (least_missing w < bound w) × (occurs w (least_missing w) ≡ false)
   least_missing_lem h =
       let (u, lt, o) = height_gap w (bound w) (omega (arith, different-below w (bound w) (omega arith))) in
       let (le, t) = least_up_to u lt o in
       let l : least_missing w < bound w = omega arith in
-      (l, not-true (occurs w (least_missing w)) (ap test (sym (get_d_range (bound w) (least_missing w) l)) ∙ t))
+      (l, not-true (occurs w (least_missing w)) (ap test (sym (get_or_range (bound w) (least_missing w) l)) ∙ t))
 
   below_least : (y : ℕ) → y < least_missing w → y < bound w → occurs w y ≡ true
   below_least y lt in-bound = by_test (occurs w y) (λ o. o) (λ o. absurd (omega (arith, least_up_to y in-bound o)))
@@ -44,7 +44,7 @@ module _ (w : List ℕ) where
     | yes lt ↦
         let (le, t) = least_up_to v lt o in
         let no_less : ¬ (least_missing w < v) = λ l. false→not_true (test (least_missing w)) (ap not (low (least_missing w) l))
-        (ap test (sym (get_d_range (bound w) (least_missing w) (omega arith))) ∙ t) in
+        (ap test (sym (get_or_range (bound w) (least_missing w) (omega arith))) ∙ t) in
         omega arith
     | no ge ↦
         let no_more : ¬ (bound w < v) = λ l. omega (arith, bound_in (in_occurs w (bound w) (low (bound w) l))) in

@@ -2,6 +2,8 @@
 // Rests on weak_orders, and in the definitions on ranking for the list of all weak orders and on rotations for dictionary order. Knows no rule
 // and no session.
 // A pattern is an array of 16 by value with n beside, as a window is; the bytes past n are not looked at.
+#![tactic(auto)]
+
 ghost use Rattle.std.specs.Prelude.{true, ◌≡◌, ◌≤◌, ◌<◌, leb, get_or, take};
 ghost use Rattle.weak_orders.specs.Window.{bound, padded};
 ghost use Rattle.filling.specs.Answers.{judged_pattern, fill_answer};

@@ -8,7 +8,7 @@ use crate::field;
 use refusals::Cause;
 
 // What a frame is answered, and a level file. Only a step has a symbol and a level; the others have 0.
-#[derive(Drop)]
+#[derive(Clone, Copy)]
 pub enum Reply {
     Accepted { symbol: u8, level: i32 },
     Refused(Cause),

@@ -1,6 +1,8 @@
 // What comes to a session from outside: frames of forty bytes, which are tested in order and answered, and level files.
 // Rests on frames for bytes, on level_files, and on stepper for the session and for what a frame and a file come to. Opens no device and keeps
 // no state of its own: a session goes in by value and comes back beside its reply.
+#![tactic(auto)]
+
 mod frame;
 
 ghost use Rattle.std.specs.Prelude.{◌≡◌};

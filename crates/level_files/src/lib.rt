@@ -1,5 +1,7 @@
 // Level files: a customer's own sixteen levels, as a text.
 // Rests on decimals for the readers of fields, and on levels for what a table may hold.
+#![tactic(auto)]
+
 ghost use Rattle.std.proofs.Math.Option.{none};
 ghost use Rattle.std.specs.Prelude.{◌≡◌};
 ghost use Rattle.decimals.specs.Held.{signed_of};
@@ -9,7 +11,7 @@ ghost use Rattle.level_files.specs.Held.{no_lines, lines_of, table_read};
 use decimals::{Decimal, SignedDecimal};
 
 // The sixteen levels, and how many bytes their lines take.
-#[derive(Drop)]
+#[derive(Clone, Copy)]
 struct Lines {
     found: bool,
     table: [i16; 16],
@@ -17,7 +19,7 @@ struct Lines {
 }
 
 // The table of a file. An enum cannot hold the array; where no table is found it is zero.
-#[derive(Drop)]
+#[derive(Clone, Copy)]
 pub struct TableRead {
     pub found: bool,
     pub table: [i16; 16],

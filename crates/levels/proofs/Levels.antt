@@ -7,7 +7,7 @@ use native.Mathlib.Omega.{arith}
 use lib.IntN.{ℤ, pos, negsuc, nat_abs, sub_ℕ}
 use lib.Signed.{le_z, lt_z}
 use borrow.Author.Tests.{le-ltb}
-use Rattle.weak_orders.proofs.Lists.{get_d_in, all_in}
+use Rattle.weak_orders.proofs.Lists.{get_or_in, all_in}
 use Rattle.weak_orders.proofs.Tests.{by_test, says_and, says_eq, says_itself, says_le}
 use Rattle.levels.specs.declared.Setting.{Setting}
 use Rattle.levels.specs.Table.{is_multiple, level_allowed, table_ok}
@@ -86,7 +86,7 @@ module _ (n : ℕ) (s : Setting) (few : n ≤ 16) (ok : table_ok s.table ≡ tru
   table-ordered : Ordered n (entry s.table)
   table-ordered =
       let (long, (allowed, falls)) = (says_table s.table).to ok in
-      let each : (d : ℕ) → d < n → level_allowed (entry s.table d) ≡ true = λ d lt. all_in level_allowed allowed (get_d_in s.table d (pos 0) (omega arith)) in
+      let each : (d : ℕ) → d < n → level_allowed (entry s.table d) ≡ true = λ d lt. all_in level_allowed allowed (get_or_in s.table d (pos 0) (omega arith)) in
       record {
         low = λ d lt. ((says_allowed (entry s.table d)).to (each d lt)).0;
         high = λ d lt. ((says_allowed (entry s.table d)).to (each d lt)).1.0;

@@ -1,5 +1,7 @@
 // The level setting of a round, and the level of a symbol. The only crate that knows how a level is made.
 // Rests on weak_orders for test 6, and on successors for the form that a rule's windows have.
+#![tactic(auto)]
+
 pub mod table;
 
 ghost use Rattle.std.specs.Prelude.{◌&&◌, ◌≡◌, ◌<◌, ◌^◌};
@@ -9,7 +11,7 @@ ghost use Rattle.levels.specs.Level.{setting_of, spacings, lowered, nearest, rou
 
 // A level setting, in hundredths of a dBm: a top and a spacing, or the table where both are 0.
 #[repr(C)]
-#[derive(Drop)]
+#[derive(Clone, Copy)]
 pub struct Setting {
     pub top: i16,
     pub spacing: u16,

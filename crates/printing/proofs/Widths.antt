@@ -9,7 +9,7 @@ use lib.ListN.{length, get_or, take, length-append, length-take, get_or-eq_defau
 use lib.Seq.{get_or-take}
 use lib.Signed.{mag}
 use Rattle.weak_orders.proofs.Tests.{◌∈◌, here, there}
-use Rattle.weak_orders.proofs.Lists.{mem_take, in_get_d}
+use Rattle.weak_orders.proofs.Lists.{mem_take, in_get_or}
 use Rattle.levels.specs.Level.{entry, level_of}
 use Rattle.frames.specs.Answer.{newest}
 use Rattle.levels.proofs.Sizes.{level_size}
@@ -88,4 +88,4 @@ last_line_width p h =
     let s = symbol_below p.window p.n (length w - 1) h.symbols in
     line_width p.done (newest w) (level_of p.rule p.setting (newest w)) w h.done s
     (level_size p.rule p.setting (newest w) h.top h.spacing h.entries s) (omega (arith, length-take p.n p.window, h.long))
-    (λ v m. let (i, _, e) = in_get_d 0 (mem_take p.n p.window v m) in rw (← e) (h.symbols i))
+    (λ v m. let (i, _, e) = in_get_or 0 (mem_take p.n p.window v m) in rw (← e) (h.symbols i))

@@ -1,6 +1,8 @@
 // The printed round, page by page: the opening, and then lines into a lent slice, as many as have room.
 // Rests on sheets for what becomes of a sheet, on successors for the steps, on levels, and on ranking for a(n). Writes slices only; the
 // program `round` does the input and output.
+#![tactic(auto)]
+
 mod writer;
 
 ghost use Rattle.std.specs.Prelude.{true, ◌≡◌, ◌+◌, ◌≤◌, ◌<◌, length, take};
@@ -14,7 +16,7 @@ use refusals::Verdict;
 use sheets::judge::Judged;
 
 // Where the printing of a round stands: the window after `done` of `last` steps.
-#[derive(Drop)]
+#[derive(Clone, Copy)]
 pub struct Printing {
     pub n: usize,
     pub rule: u8,
@@ -25,7 +27,7 @@ pub struct Printing {
 }
 
 // Where it stands after a page, and how many bytes the page has.
-#[derive(Drop)]
+#[derive(Clone, Copy)]
 pub struct Page {
     pub printing: Printing,
     pub len: usize,

@@ -1,5 +1,5 @@
 -- How many ways a prefix has to become a height window. Assumes nothing.
-use mathlib.Core.Bool.{Bool, true, cond, ◌&&◌, and-eq-true_iff, and_false}
+use mathlib.Core.Bool.{Bool, true, cond, ◌&&◌, and-eq-true_iff, and-false}
 use mathlib.Core.Path.{◌≡◌, refl, sym, ap, ◌∙◌}
 use mathlib.Core.List.Memᴰ
 use mathlib.Core.List.Memᴰ.{head as here}
@@ -90,7 +90,7 @@ fillings_ways k n p zero h h' = fillings_zero (is_height_of k) n p ∙ elim (ℕ
   | yes e ↦
       let z : k - different p ≡ 0 = omega arith in
       rw (form_height p (omega (arith, different≤bound p)), eq-eqb (different p) k e, z)
-  | no ne ↦ rw (ne_eqb (different p) k ne, and_false, ways-none 0 (k - different p) (different p) (omega (arith, different≤bound p)))
+  | no ne ↦ rw (ne_eqb (different p) k ne, and-false, ways-none 0 (k - different p) (different p) (omega (arith, different≤bound p)))
 ]
 fillings_ways k n p (suc r) h h' =
     let d = different p in

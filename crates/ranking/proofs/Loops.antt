@@ -10,7 +10,7 @@ use Rattle.weak_orders.specs.Converted.{is_height_window}
 use Rattle.weak_orders.specs.Window.{padded, bound}
 use Rattle.weak_orders.proofs.FormTests.{of_height_window}
 use Rattle.weak_orders.proofs.HeightForm.{height_bound}
-use Rattle.weak_orders.proofs.Lists.{get_d_in}
+use Rattle.weak_orders.proofs.Lists.{get_or_in}
 use Rattle.weak_orders.proofs.Padded.{take-padded, padded-next}
 use Rattle.weak_orders.proofs.Symbols.{bound_in, bound_append}
 use Rattle.ranking.specs.Counts.{sum, a, Found}
@@ -52,7 +52,7 @@ module _ (w : List ℕ) (n : ℕ) (long : length w ≡ 16) (h : is_height_window
   prefix_low i l = omega (arith, low, bound-take (take n w) i, ap bound (take-take i n w l))
 
   pub symbol_low : (i : ℕ) → i < n → get_or w i 0 < n
-  symbol_low i l = omega (arith, low, size, bound_in (get_d_in (take n w) i 0 (omega (arith, size))), get_or-take n w i 0 l)
+  symbol_low i l = omega (arith, low, size, bound_in (get_or_in (take n w) i 0 (omega (arith, size))), get_or-take n w i 0 l)
 
   -- what the symbol at i adds
   pub placed_at : (i : ℕ) → i < n → (t : List ℕ) → Entries t (completions_with n (take i w)) n →

@@ -1,5 +1,5 @@
 -- Places number the height windows, and the rank windows with them; a place is a sum over the window's prefixes. Assumes nothing.
-use mathlib.Core.Bool.{Bool, ◌&&◌, and_true, and_false}
+use mathlib.Core.Bool.{Bool, ◌&&◌, and-true, and-false}
 use mathlib.Core.Path.{◌≡◌, refl, sym, ap, ◌∙◌}
 use mathlib.Core.List.{List, [], ◌∷◌, ◌++◌}
 use Prim.Native.Nat.{ℕ, zero, suc, ◌+◌, ◌-◌, ◌≤◌, ◌<◌}
@@ -74,7 +74,7 @@ place_from n p (x ∷ s) = sum (λ v. completions n (p ++ (v ∷ []))) x + place
 place_from_count : (n : ℕ) (p s : List ℕ) → bound p ≤ n → bound s ≤ n → length p + length s ≡ n →
     place_from n p s ≡ count (λ t. is_height (p ++ t) && lex_lt t s) (strings (length s) n)
 unfolding place_from endings fillings bound
-place_from_count n p [] h h' e = sym (count_none (λ t. is_height (p ++ t) && lex_lt t []) (strings 0 n) (λ t m. rw (lex_lt_nil t, and_false)))
+place_from_count n p [] h h' e = sym (count_none (λ t. is_height (p ++ t) && lex_lt t []) (strings 0 n) (λ t m. rw (lex_lt_nil t, and-false)))
 place_from_count n p (x ∷ s) h h' e =
     let r = length s in
     let q : List ℕ → Bool = λ t. is_height (p ++ t) && lex_lt t (x ∷ s) in
@@ -82,13 +82,13 @@ place_from_count n p (x ∷ s) h h' e =
     let all : n ≡ suc x + (n - suc x) = omega arith in
     let less : (v : ℕ) → v < x → g v ≡ endings n (p ++ (v ∷ [])) r = λ v l.
     count_cong (λ t. q (v ∷ t)) (λ t. is_height (p ++ (v ∷ []) ++ t)) (strings r n)
-    (λ t m. rw (lex_lt_less v x t s l, and_true, append_snoc)) in
+    (λ t m. rw (lex_lt_less v x t s l, and-true, append_snoc)) in
     let same : g x ≡ place_from n (p ++ (x ∷ [])) s =
     count_cong (λ t. q (x ∷ t)) (λ t. is_height (p ++ (x ∷ []) ++ t) && lex_lt t s) (strings r n)
     (λ t m. rw (lex_lt_equal x x t s refl, append_snoc))
     ∙ sym (place_from_count n (p ++ (x ∷ [])) s (omega (arith, bound_back p x)) (omega arith) (omega (arith, length-append p (x ∷ [])))) in
     let greater = sum_past g (suc x) (n - suc x) (λ v a b.
-    count_none (λ t. q (v ∷ t)) (strings r n) (λ t m. rw (lex_lt_greater v x t s a, and_false))) in
+    count_none (λ t. q (v ∷ t)) (strings r n) (λ t m. rw (lex_lt_greater v x t s a, and-false))) in
     omega (
       arith,
       count-strings q r n,

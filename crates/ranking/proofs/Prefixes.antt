@@ -1,5 +1,5 @@
 -- The completions of a prefix: the windows that begin with it, counted by the ways to fill the places that are left. Assumes nothing.
-use mathlib.Core.Bool.{Bool, true, false, ◌&&◌, and_true, and_false, and-eq-true_iff, false≢true}
+use mathlib.Core.Bool.{Bool, true, false, ◌&&◌, and-true, and-false, and-eq-true_iff, false≢true}
 use mathlib.Core.List.{List, [], ◌∷◌, ◌++◌}
 use mathlib.Core.Path.{◌≡◌, refl, sym, ap, ◌∙◌}
 use Prim.Native.Nat.{ℕ, suc, max, ◌+◌, ◌-◌, ◌≤◌, ◌<◌}
@@ -25,14 +25,14 @@ use Rattle.ranking.proofs.Sums.{sum_cong, sum-single}
 begins_fillings : (q : List ℕ → Bool) (n : ℕ) (p : List ℕ) (r : ℕ) → bound p ≤ n →
     count (λ w. q w && begins p w) (strings (length p + r) n) ≡ fillings q n p r
 unfolding begins bound fillings
-begins_fillings q n [] r h = rw zero-add (count_cong (λ w. q w && true) q (strings r n) (λ w m. and_true (q w)))
+begins_fillings q n [] r h = rw zero-add (count_cong (λ w. q w && true) q (strings r n) (λ w m. and-true (q w)))
 begins_fillings q n (x ∷ p) r h =
     let f : ℕ → List ℕ → Bool = λ v s. q (v ∷ s) && (eqb x v && begins p s) in
     let m = length p + r in
     ap (λ k. count (λ w. q w && begins (x ∷ p) w) (strings k n)) (suc-add (length p) r)
     ∙ count-strings (λ w. q w && begins (x ∷ p) w) m n
     ∙ sum-single (λ v. count (f v) (strings m n)) n x (omega arith) (λ v l ne.
-    count_none (f v) (strings m n) (λ s i. rw (ne_eqb x v (λ e. ne (sym e)), and_false)))
+    count_none (f v) (strings m n) (λ s i. rw (ne_eqb x v (λ e. ne (sym e)), and-false)))
     ∙ count_cong (f x) (λ s. q (x ∷ s) && begins p s) (strings m n) (λ s i. rw (eq-eqb x x refl))
     ∙ begins_fillings (λ s. q (x ∷ s)) n p r (omega arith)
 

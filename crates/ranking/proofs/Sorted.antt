@@ -10,7 +10,7 @@ use Prim.Native.Nat.{ℕ, zero, suc, ◌<◌}
 use native.Mathlib.Omega.{arith}
 use lib.ListN.{length, get_or}
 use Rattle.weak_orders.specs.Window.{count}
-use Rattle.weak_orders.proofs.Lists.{get_d_in, in_get_d, count_cons, count_none}
+use Rattle.weak_orders.proofs.Lists.{get_or_in, in_get_or, count_cons, count_none}
 use Rattle.weak_orders.proofs.Tests.{◌∈◌, by_test, bit}
 use Rattle.ranking.specs.Dictionary.{select, place}
 use Rattle.ranking.specs.Numbering.{Numbering}
@@ -40,7 +40,7 @@ module _ {A : Type 0} {lt : A → A → Bool} where
   pub sorted_at : (d : A) {xs : List A} → Sorted lt xs → (i j : ℕ) → i < j → j < length xs → lt (get_or xs i d) (get_or xs j d) ≡ true
   sorted_at d none i j l h = absurd (omega arith)
   sorted_at d (one f s) i zero l h = absurd (omega arith)
-  sorted_at d (one {xs = xs} f s) zero (suc j) l h = f (get_or xs j d) (get_d_in xs j d (omega arith))
+  sorted_at d (one {xs = xs} f s) zero (suc j) l h = f (get_or xs j d) (get_or_in xs j d (omega arith))
   sorted_at d (one f s) (suc i) (suc j) l h = sorted_at d s i j (omega arith) (omega arith)
 
   pub sorted_map : {B : Type 0} {lt' : B → B → Bool} (f : A → B) → ((x y : A) → lt x y ≡ true → lt' (f x) (f y) ≡ true) →
@@ -60,13 +60,13 @@ module _ {A : Type 0} (lt : A → A → Bool)
       omega (arith, count_cons (λ u. lt u x) x xs, count_none (λ u. lt u x) xs (λ y m. asymmetric x y (f y m)))
   count_at (one {x = x} {xs = xs} f s) (suc i) h =
       let z = get_or xs i d in
-      let e : bit (lt x z) ≡ 1 = rw (f z (get_d_in xs i d (omega arith))) in
+      let e : bit (lt x z) ≡ 1 = rw (f z (get_or_in xs i d (omega arith))) in
       omega (arith, count_cons (λ u. lt u z) x xs, count_at s i (omega arith))
 
   pub sorted_numbering : (xs : List A) → Sorted lt xs → Numbering (λ x. x ∈ xs) (length xs) (λ x. count (λ u. lt u x) xs) (λ i. get_or xs i d)
   sorted_numbering xs s = let place : A → ℕ = λ x. count (λ u. lt u x) xs in record {
-    place-below = λ x m. let (i, l, e) = in_get_d d m in omega (arith, count_at s i l, ap place e);
-    item_place = λ x m. let (i, l, e) = in_get_d d m in cc (count_at s i l, ap place e);
-    item_in = λ i l. get_d_in xs i d l;
+    place-below = λ x m. let (i, l, e) = in_get_or d m in omega (arith, count_at s i l, ap place e);
+    item_place = λ x m. let (i, l, e) = in_get_or d m in cc (count_at s i l, ap place e);
+    item_in = λ i l. get_or_in xs i d l;
     place_item = λ i l. count_at s i l;
   }

@@ -1,6 +1,8 @@
 // The numbers a(n) and L(n, k) of weak orders, and the places of height windows in dictionary order (document 01, "Windows" and
 // "Place"). Rests on weak_orders. Completions of a prefix are counted, never listed. Knows no rule and no session; a rank window has
 // the place of its heights, and is converted by the caller.
+#![tactic(auto)]
+
 ghost use Rattle.std.specs.Prelude.{cond, true, ◌&&◌, ◌≡◌, max, ◌+◌, ◌-◌, ◌^◌, ◌≤◌, ◌<◌, leb, get_or, take};
 ghost use Rattle.weak_orders.specs.Converted.{is_height_window};
 ghost use Rattle.weak_orders.specs.Window.{padded, bound};
@@ -245,7 +247,7 @@ fn place_of(w: [u8; 16], n: usize) -> u64
 }
 
 // A symbol, and how many of the windows that have it stand before the one that is looked for.
-#[derive(Drop)]
+#[derive(Clone, Copy)]
 struct Next {
     symbol: u8,
     left: u64,
@@ -288,7 +290,7 @@ fn window_of(n: usize, place: u64) -> [u8; 16]
 }
 
 // A number for an answer, or why there is none.
-#[derive(Drop)]
+#[derive(Clone, Copy)]
 pub enum NumberAnswer {
     Number(u64),
     Refused(Cause),

@@ -1,10 +1,12 @@
 // Why a frame, a call, a sheet or a level file is turned down: document 01's table of refusals with document 02's behind it, once for all crates.
 // Rests on nothing. What is left as it was is for each caller's contract to say.
+#![tactic(auto)]
+
 ghost use Rattle.std.specs.Prelude.{◌≡◌};
 ghost use Rattle.refusals.specs.Numbers.{cause_number};
 
 // The causes in the order of document 01's table, "Turned down", and then those of document 02.
-#[derive(Drop)]
+#[derive(Clone, Copy)]
 pub enum Cause {
     ShortBuffer,
     FrameLength,
@@ -28,7 +30,7 @@ pub enum Cause {
 }
 
 // Whether a call or a sheet is accepted. A window that goes with it stands beside it, since an enum cannot hold an array.
-#[derive(Drop)]
+#[derive(Clone, Copy)]
 pub enum Verdict {
     Accepted,
     Refused(Cause),

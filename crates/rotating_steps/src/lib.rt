@@ -1,6 +1,8 @@
 // How many weak orders of n a rule follows by the symbol that they drop, so that the step rotates the window, and how many by another.
 // Rests on successors for the steps and on ranking for a(n). The rounds are gone through once; that this counts every weak order, each once, is
 // universal_cycle's theorem (proofs/CountedByTour.antt).
+#![tactic(auto)]
+
 ghost use Rattle.std.specs.Prelude.{true, cond, not, ◌≡◌, eqb, take, replicate};
 ghost use Rattle.weak_orders.specs.Window.{count, range, iter};
 ghost use Rattle.successors.specs.NextSymbol.{steppable};
@@ -9,7 +11,7 @@ ghost use Rattle.rotating_steps.specs.Kinds.{rotates};
 ghost use Rattle.rotating_steps.specs.Tallied.{tallied};
 
 // The weak orders of n that a step of a rule rotates, and the others.
-#[derive(Drop)]
+#[derive(Clone, Copy)]
 pub struct Tally {
     pub same: u64,
     pub other: u64,

@@ -13,7 +13,7 @@ use lib.Seq.{take-suc, drop-cons, take-length, drop-length, take-append_seam, dr
 use Rattle.weak_orders.specs.Says.{Says}
 use Rattle.weak_orders.specs.Window.{all, count, first_index, range, iter, num, below}
 use Rattle.weak_orders.proofs.Iterates.{◌⇝⟨◌⟩◌, iter_add, along, stay, on, ◌⨟◌, first_step, back}
-use Rattle.weak_orders.proofs.Lists.{count_append, first_index_lem, in_range, length-range, get_d_range, total, total_append}
+use Rattle.weak_orders.proofs.Lists.{count_append, first_index_lem, in_range, length-range, get_or_range, total, total_append}
 use Rattle.weak_orders.proofs.Symbols.{num_mem}
 use Rattle.weak_orders.proofs.Tests.{◌∈◌, there, nowhere, split_mem, says_as, says_itself, says_all}
 use Rattle.rotations.specs.Order.{lex_le}
@@ -153,9 +153,9 @@ length-rotations : (w : List ℕ) → length (rotations w) ≡ length w
 unfolding rotations
 length-rotations w = length-map (range (length w)) (rotation w) ∙ length-range (length w)
 
-get_d_rotations : (w : List ℕ) (j : ℕ) → j < length w → get_or (rotations w) j (rotation w 0) ≡ rotation w j
+get_or_rotations : (w : List ℕ) (j : ℕ) → j < length w → get_or (rotations w) j (rotation w 0) ≡ rotation w j
 unfolding rotations
-get_d_rotations w j lt = get_or-map (rotation w) (range (length w)) j 0 ∙ ap (rotation w) (get_d_range (length w) j lt)
+get_or_rotations w j lt = get_or-map (rotation w) (range (length w)) j 0 ∙ ap (rotation w) (get_or_range (length w) j lt)
 
 -- The rotation of w from i comes first in an order, and i is the least index of it.
 pub record StartBy (le : List ℕ → List ℕ → Bool) (w : List ℕ) (i : ℕ) : Type 0 where
@@ -182,14 +182,14 @@ module _ {le : List ℕ → List ℕ → Bool} (order : TotalOrder le) (x : ℕ)
       λ u. says_rotations (λ v. says_itself (le u v)) x b in
       let index : (j : ℕ) → j < length w → all (le (rotation w j)) (rotations w) ≡ true →
       (i ≤ j) × (all (le (get_or (rotations w) i (rotation w 0))) (rotations w) ≡ true) =
-      λ j lt t. first_index_lem (λ u. all (le u) (rotations w)) (rotations w) (rotation w 0) j (rw (length-rotations w) lt) (rw (get_d_rotations w j lt) t) in
+      λ j lt t. first_index_lem (λ u. all (le u) (rotations w)) (rotations w) (rotation w 0) j (rw (length-rotations w) lt) (rw (get_or_rotations w j lt) t) in
       let (m, c, low) = extreme in
       let (j, lt, e) = index_of x b c in
       let (le', t) = index j lt ((says (rotation w j)).of (rw e low)) in
       let inside : i < length w = omega arith in
       record {
         inside = inside;
-        lowest = (says (rotation w i)).to (rw (get_d_rotations w i inside) at t);
+        lowest = (says (rotation w i)).to (rw (get_or_rotations w i inside) at t);
         first = λ j lt low. (index j lt ((says (rotation w j)).of low)).0;
       }
 

@@ -2,6 +2,8 @@
 // different.
 // Rests on weak_orders for windows, and knows no rule.
 // A window is an array of 16 by value with n beside; the symbols past n are not looked at.
+#![tactic(auto)]
+
 ghost use Rattle.std.specs.Prelude.{cond, List, ◌≡◌, ℕ, ◌≤◌, ◌<◌, length, take, get_or};
 ghost use Rattle.weak_orders.specs.Window.{padded};
 ghost use Rattle.rotations.specs.Order.{compared};
@@ -35,7 +37,7 @@ pub fn turned_back(w: [u8; 16], n: usize) -> [u8; 16]
 }
 
 // Where one string stands beside another in dictionary order.
-#[derive(Drop)]
+#[derive(Clone, Copy)]
 enum Comparison {
     Before,
     Same,
@@ -66,7 +68,7 @@ fn compare(w: [u8; 16], n: usize, i: usize, j: usize) -> Comparison
 
 // Where the least or the greatest rotation starts, counted from 1, the least such index where it starts at several; and the period, how many
 // different rotations there are.
-#[derive(Drop)]
+#[derive(Clone, Copy)]
 pub struct Rotation {
     pub start: usize,
     pub period: usize,
@@ -119,7 +121,7 @@ pub fn greatest_rotation(w: [u8; 16], n: usize) -> Rotation
 }
 
 // Where a window stands among its rotations: behind another, or greatest, with the period.
-#[derive(Drop)]
+#[derive(Clone, Copy)]
 pub enum Standing {
     Behind,
     Greatest { period: usize },

@@ -9,7 +9,7 @@ use levels::Setting;
 use refusals::{Cause, Verdict};
 
 // What a sheet asks for: the level setting and the start window of a round of n symbols under a rule.
-#[derive(Drop)]
+#[derive(Clone, Copy)]
 pub struct Round {
     pub n: usize,
     pub rule: u8,
@@ -18,7 +18,7 @@ pub struct Round {
 }
 
 // The round stands beside the verdict, since an enum cannot hold an array. A refused sheet has none, in every field zero.
-#[derive(Drop)]
+#[derive(Clone, Copy)]
 pub struct Judged {
     pub verdict: Verdict,
     pub round: Round,
@@ -67,7 +67,7 @@ fn symbols(items: [u32; 16], n: usize) -> [u8; 16]
 }
 
 // A level setting that passes test 9, or none.
-#[derive(Drop)]
+#[derive(Clone, Copy)]
 struct SettingTest {
     ok: bool,
     setting: Setting,

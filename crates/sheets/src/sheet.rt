@@ -8,7 +8,7 @@ ghost use Rattle.sheets.specs.Held.{length_and_rule_of, top_and_spacing_of, blan
 use decimals::{Decimal, SignedDecimal};
 
 // The values of the second line. The start is the first `count` items.
-#[derive(Drop)]
+#[derive(Clone, Copy)]
 pub struct Sheet {
     pub n: u32,
     pub rule: u32,
@@ -19,20 +19,20 @@ pub struct Sheet {
 }
 
 // The first two fields of the second line, and how many bytes they take; and the two after them.
-#[derive(Drop)]
+#[derive(Clone, Copy)]
 enum LengthAndRule {
     Read { n: u32, rule: u32, len: usize },
     Unread,
 }
 
-#[derive(Drop)]
+#[derive(Clone, Copy)]
 enum TopAndSpacing {
     Read { top: i32, spacing: u32, len: usize },
     Unread,
 }
 
 // A sheet at the start of a text, and how many bytes it takes.
-#[derive(Drop)]
+#[derive(Clone, Copy)]
 pub struct Lines {
     pub found: bool,
     pub sheet: Sheet,
@@ -40,7 +40,7 @@ pub struct Lines {
 }
 
 // A sheet that is the whole of a text.
-#[derive(Drop)]
+#[derive(Clone, Copy)]
 pub struct Parsed {
     pub found: bool,
     pub sheet: Sheet,

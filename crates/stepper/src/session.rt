@@ -18,7 +18,7 @@ use successors::Next;
 // may hold any: 1 has begun, every other value has not. So is `version`, that of the begin frame in force: 2 is WKO2, every other value WKO1.
 // `round` is the round number of a WKO2 round. `held` is the level table loaded last; a round on a table has a copy in its setting.
 #[repr(C)]
-#[derive(Drop)]
+#[derive(Clone, Copy)]
 pub struct Session {
     pub begun: u8,
     pub version: u8,
@@ -32,7 +32,7 @@ pub struct Session {
 }
 
 // What a frame comes to, or a level file: the session after it, and the reply.
-#[derive(Drop)]
+#[derive(Clone, Copy)]
 pub struct Exchanged {
     pub session: Session,
     pub reply: Reply,

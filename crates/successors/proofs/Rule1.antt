@@ -79,7 +79,7 @@ says_case4 x b p = says_as
     (says_and (says_lt 1 x) (says_and (says_eq (num w x) 1) (says_and (says_not (says_eq p 1))
     (says_all (λ v. says_and (says_not (says_eq v p)) (says_single w v)) (before (start (p ∷ b)) w)))))
     (λ t. record { big = t.0; once = t.1.0; not_one = t.1.1.0; clear = t.1.1.1 })
-    (λ c. (c.big, (c.once, (c.not-one, c.clear))))
+    (λ c. (c.big, (c.once, (c.not_one, c.clear))))
   where
     w : List ℕ
     w = x ∷ b
@@ -287,7 +287,7 @@ other_partner x b r n = elim (true? (test2 x b)) [
     four c =
         let p = p_of x b in
         let u = under_fall x b r c.big c.once in
-        let ne : p ≢ 1 = c.not-one in
+        let ne : p ≢ 1 = c.not_one in
         partner_repeated b p x u (rank_fall b p x u r) (omega (arith, rank_positive (x ∷ b) r p (there ((num_mem b p).0 u.in_tail)))) (λ v m.
         let (np, s) = c.clear v (rw (before-tail (start (p ∷ b)) x p b) m) in
         ⊎_elim inl (λ e. inr (sym (tail-num b p x u v (mem_before _ p b v m) np) ∙ e)) s)

@@ -152,5 +152,5 @@ module _ {rule : List ℕ → ℕ} (M : Moves rule) where
       at (low₂ {a} t) h = rw (M.rises a b t) (R_height _ t.r1)
       at (high₂ {a} t) h = rw (M.falls a b t) (R_down a b t.r1)
       at (low₃ {a} t) h = ⊎_elim (λ c. rw c.from_low (R_height _ t.r1)) (λ c. rw c.from_low (R_height _ t.r2)) (M.cycles a b t)
-      at (mid₃ {a} t) h = ⊎_elim (λ c. rw c.from-i (R_height _ t.r2)) (λ c. rw c.from-j (R_down a b t.r1)) (M.cycles a b t)
-      at (high₃ {a} t) h = ⊎_elim (λ c. rw c.from-j (R_down a b t.r1)) (λ c. rw c.from-i (R_height _ t.r1)) (M.cycles a b t)
+      at (mid₃ {a} t) h = ⊎_elim (λ c. rw c.from_i (R_height _ t.r2)) (λ c. rw c.from_j (R_down a b t.r1)) (M.cycles a b t)
+      at (high₃ {a} t) h = ⊎_elim (λ c. rw c.from_j (R_down a b t.r1)) (λ c. rw c.from_i (R_height _ t.r1)) (M.cycles a b t)

@@ -9,7 +9,7 @@ use native.Mathlib.Omega.{arith}
 use lib.ListN.{length, take, drop, get_or}
 use lib.Seq.{take_all}
 use Rattle.weak_orders.specs.Window.{all, range, num, occurs}
-use Rattle.weak_orders.proofs.Lists.{length-range, get_d_range}
+use Rattle.weak_orders.proofs.Lists.{length-range, get_or_range}
 use Rattle.weak_orders.proofs.Parts.{at_part, of_part, part_none, part_front}
 use Rattle.weak_orders.proofs.Symbols.{added_front, occurs_in}
 use Rattle.weak_orders.proofs.Tests.{◌∈◌, here}
@@ -50,9 +50,9 @@ take_range x = take_all x (range x) (omega (arith, length-range x))
 pub in_drop-range : (a x v : ℕ) → a ≤ v → v < x → v ∈ drop a (range x)
 in_drop-range a x v le lt =
     let m = at_part (range x) a x (omega (arith, length-range x)) v le lt in
-    rw (take_range x, get_d_range x v lt) at m
+    rw (take_range x, get_or_range x v lt) at m
 
 pub of_drop-range : (a x v : ℕ) → v ∈ drop a (range x) → (a ≤ v) × (v < x)
 of_drop-range a x v m =
     let (k, ak, kx, e) = of_part (range x) a x (omega (arith, length-range x)) v (rw take_range m) in
-    omega (arith, get_d_range x k kx)
+    omega (arith, get_or_range x k kx)

@@ -1,7 +1,7 @@
 -- Membership in R by tests on the window, and rules 2 and 3 by membership in R. Assumes nothing.
 use mathlib.Core.Bool.{Bool, true, false, ◌&&◌}
 use mathlib.Core.List.{List, ◌∷◌}
-use mathlib.Core.Path.{◌≡◌, refl, sym}
+use mathlib.Core.Path.{◌≡◌, refl, sym, subst}
 use Prim.Native.Nat.{ℕ, zero, suc, ◌+◌, ◌-◌, ◌≤◌, ◌<◌}
 use native.Mathlib.Omega.{arith}
 use native.Mathlib.Decide.{dec_lt}
@@ -74,14 +74,18 @@ module _ (a x : ℕ) (b : List ℕ) (form : is_height (a ∷ b) ≡ true) where
 
 -- ---- the rules, for the window u with the first symbol x and the others b
 
+-- a first symbol that is written otherwise
+in_r_as : {x y : ℕ} (b : List ℕ) {t : Bool} → x ≡ y → in_r (x ∷ b) ≡ t → in_r (y ∷ b) ≡ t
+in_r_as b {t} e h = subst (λ k. in_r (k ∷ b) ≡ t) e h
+
 module _ (u : List ℕ) (x : ℕ) (b : List ℕ) (e : u ≡ x ∷ b) where
   pub rule2_up : in_r ((x + 1) ∷ b) ≡ true → x + 1 ≡ rule2 u
   unfolding rule2
-  rule2_up p = rw (e, add-one, rw add-one at p)
+  rule2_up p = rw (e, add-one, in_r_as b (add-one x) p)
 
   pub rule2_stays : in_r ((x + 1) ∷ b) ≡ false → in_r (x ∷ b) ≡ false → x ≡ rule2 u
   unfolding rule2
-  rule2_stays p q = rw (e, rw add-one at p, q)
+  rule2_stays p q = rw (e, in_r_as b (add-one x) p, q)
 
   pub rule3_down : in_r (x ∷ b) ≡ true → x - 1 ≡ rule3 u
   unfolding rule3
@@ -89,21 +93,21 @@ module _ (u : List ℕ) (x : ℕ) (b : List ℕ) (e : u ≡ x ∷ b) where
 
   pub rule3_stays : in_r (x ∷ b) ≡ false → in_r ((x + 1) ∷ b) ≡ false → x ≡ rule3 u
   unfolding rule3
-  rule3_stays p q = rw (e, p, rw add-one at q)
+  rule3_stays p q = rw (e, p, in_r_as b (add-one x) q)
 
   pub rule3_once : in_r (x ∷ b) ≡ false → in_r ((x + 1) ∷ b) ≡ true → in_r ((x + 2) ∷ b) ≡ false → x + 1 ≡ rule3 u
   unfolding rule3
-  rule3_once p q r = let two : x + 2 ≡ suc (suc x) = omega arith in rw (e, add-one, p, rw add-one at q, rw two at r)
+  rule3_once p q r = let two : x + 2 ≡ suc (suc x) = omega arith in rw (e, add-one, p, in_r_as b (add-one x) q, in_r_as b two r)
 
   pub rule3_twice : in_r (x ∷ b) ≡ false → in_r ((x + 1) ∷ b) ≡ true → in_r ((x + 2) ∷ b) ≡ true → x + 2 ≡ rule3 u
   unfolding rule3
-  rule3_twice p q r = let two : x + 2 ≡ suc (suc x) = omega arith in rw (e, two, p, rw add-one at q, rw two at r)
+  rule3_twice p q r = let two : x + 2 ≡ suc (suc x) = omega arith in rw (e, two, p, in_r_as b (add-one x) q, in_r_as b two r)
 
 pub rule2_once : (u : List ℕ) (x : ℕ) (b : List ℕ) → u ≡ x ∷ b →
     in_r ((x + 1) ∷ b) ≡ false → in_r (x ∷ b) ≡ true → in_r ((x - 1) ∷ b) ≡ false → x - 1 ≡ rule2 u
 unfolding rule2 in_r⁻
 rule2_once u zero b e p q r = absurd (R_positive b q)
-rule2_once u (suc x) b e p q r = let d : suc x - 1 ≡ x = omega arith in rw (e, rw add-one at p, q, rw d at r)
+rule2_once u (suc x) b e p q r = let d : suc x - 1 ≡ x = omega arith in rw (e, in_r_as b (add-one (suc x)) p, q, in_r_as b d r)
 
 pub rule2_twice : (u : List ℕ) (x : ℕ) (b : List ℕ) → u ≡ x ∷ b →
     in_r ((x + 1) ∷ b) ≡ false → in_r (x ∷ b) ≡ true → in_r ((x - 1) ∷ b) ≡ true → x - 1 - 1 ≡ rule2 u
@@ -112,4 +116,4 @@ rule2_twice u zero b e p q r = absurd (R_positive b q)
 rule2_twice u (suc x) b e p q r =
     let d : suc x - 1 ≡ x = omega arith in
     let d₂ : suc x - 1 - 1 ≡ suc x - 2 = omega arith in
-    rw (e, rw add-one at p, q, rw d at r) d₂
+    rw (e, in_r_as b (add-one (suc x)) p, q, in_r_as b d r) d₂

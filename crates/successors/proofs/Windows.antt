@@ -6,7 +6,7 @@ use Prim.Native.Nat.{ℕ, zero, suc, ◌-◌, ◌≤◌, ◌<◌}
 use native.Mathlib.Omega.{arith}
 use lib.ListN.{length, take, drop, get_or, set, take-append-drop}
 use lib.Seq.{length-take-le, take-take, drop-cons, get_or-take}
-use Rattle.weak_orders.proofs.Lists.{mem_take, get_d_in}
+use Rattle.weak_orders.proofs.Lists.{mem_take, get_or_in}
 use Rattle.weak_orders.proofs.Parts.{window_front, window_set}
 use Rattle.weak_orders.proofs.RankForm.{Rank, rank_one, rank_positive}
 use Rattle.weak_orders.proofs.Tests.{◌∈◌, here}
@@ -55,7 +55,7 @@ start_one x b rank =
     let (d, c) = to_front (x ∷ b) 1 (rank_one (x ∷ b) rank x here) in
     let low = lex_head _ _ 1 d (rw (drop-cons (x ∷ b) i 0 s.inside) at (s.lowest (1 ∷ d) c)) in
     let q : start (x ∷ b) - 1 ≡ i = omega arith in
-    rw q (omega (arith, low, rank_positive (x ∷ b) rank (get_or (x ∷ b) i 0) (get_d_in (x ∷ b) i 0 s.inside)))
+    rw q (omega (arith, low, rank_positive (x ∷ b) rank (get_or (x ∷ b) i 0) (get_or_in (x ∷ b) i 0 s.inside)))
 
 -- what stands behind the first symbol does not depend on it
 behind : (x y : ℕ) (b : List ℕ) (k : ℕ) → 0 < k → get_or (x ∷ b) k 0 ≡ get_or (y ∷ b) k 0

@@ -3,6 +3,8 @@
 // back, and on refusals for causes. That the steps of a rule go through every weak order once is shown in universal_cycle; this crate knows no
 // session.
 // A window passes by value, as an array of 16 with n beside.
+#![tactic(auto)]
+
 mod height_rules;
 mod rank_rule;
 
@@ -59,7 +61,7 @@ pub fn judge(rule: u8, w: [u8; 16], n: usize) -> Verdict
 }
 
 // A symbol for an answer, or why there is none.
-#[derive(Drop)]
+#[derive(Clone, Copy)]
 pub enum Next {
     Symbol(u8),
     Refused(Cause),
@@ -116,7 +118,7 @@ pub fn previous_symbol(rule: u8, w: [u8; 16], n: usize) -> Next
 }
 
 // The rotation that a rule compares with, or why there is none.
-#[derive(Drop)]
+#[derive(Clone, Copy)]
 pub enum RotationAnswer {
     Found(Rotation),
     Refused(Cause),

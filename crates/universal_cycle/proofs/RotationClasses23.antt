@@ -47,7 +47,7 @@ module _ {rule : List ℕ → ℕ} (M : Moves rule) where
     where
       round_trip : (i j : ℕ) → R (i ∷ b) → R (j ∷ b) → a < i → a < j → Cycle rule b a i j → Home τ sum_of R (a ∷ b) (τ (a ∷ b))
       round_trip i j r s lt lt' c = rw c.from_low (via (i ∷ b) r (sum_less a i b lt)
-          (rw c.from-i (via (j ∷ b) s (sum_less a j b lt') (home (ap (λ y. y ∷ b) c.from-j)))))
+          (rw c.from_i (via (j ∷ b) s (sum_less a j b lt') (home (ap (λ y. y ∷ b) c.from_j)))))
   way_home b (mid₃ t) n = absurd (n t.r1)
   way_home b (high₃ t) n = absurd (n t.r2)
 
@@ -64,7 +64,7 @@ module _ {rule : List ℕ → ℕ} (M : Moves rule) where
 
   two_steps : (b : List ℕ) (a i j : ℕ) → R (i ∷ b) → R (j ∷ b) → Cycle rule b a i j → Leads τ R (a ∷ b) (j ∷ b)
   unfolding change
-  two_steps b a i j r s c = next (one_step b a i j r c) (ap (λ y. y ∷ b) (sym c.from-i)) s
+  two_steps b a i j r s c = next (one_step b a i j r c) (ap (λ y. y ∷ b) (sym c.from_i)) s
 
   from_below : (b : List ℕ) {y : ℕ} → Spot b y → R (y ∷ b) → Below b y
   unfolding change

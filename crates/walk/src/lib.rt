@@ -1,4 +1,6 @@
 // Many steps of a rule in a row, for the benchmarks. Rests on successors. The library for C hosts is wko, not this.
+#![tactic(auto)]
+
 ghost use Rattle.std.specs.Prelude.{◌≡◌};
 ghost use Rattle.weak_orders.specs.Window.{iter};
 ghost use Rattle.successors.specs.NextSymbol.{step_or_stay};

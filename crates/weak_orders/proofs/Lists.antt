@@ -30,14 +30,14 @@ pub mem_take : (k : ℕ) (l : List ℕ) (v : ℕ) → v ∈ take k l → v ∈ l
 mem_take k l v m = rw take-append-drop at (Memᴰ.append_left (drop k l) m)
 
 -- an element has an index, and an index an element
-pub get_d_in : {A : Type 0} (xs : List A) (i : ℕ) (d : A) → i < length xs → get_or xs i d ∈ xs
-get_d_in [] i d h = absurd (omega arith)
-get_d_in (x ∷ xs) zero d h = here
-get_d_in (x ∷ xs) (suc i) d h = there (get_d_in xs i d (omega arith))
+pub get_or_in : {A : Type 0} (xs : List A) (i : ℕ) (d : A) → i < length xs → get_or xs i d ∈ xs
+get_or_in [] i d h = absurd (omega arith)
+get_or_in (x ∷ xs) zero d h = here
+get_or_in (x ∷ xs) (suc i) d h = there (get_or_in xs i d (omega arith))
 
-pub in_get_d : {A : Type 0} {xs : List A} {x : A} (d : A) → x ∈ xs → (i : ℕ) × (i < length xs) × (get_or xs i d ≡ x)
-in_get_d d (head e) = (0, omega arith, sym e)
-in_get_d d (tail m) = let (i, l, e) = in_get_d d m in (suc i, omega arith, e)
+pub in_get_or : {A : Type 0} {x : A} {xs : List A} (d : A) → x ∈ xs → (i : ℕ) × (i < length xs) × (get_or xs i d ≡ x)
+in_get_or d (head e) = (0, omega arith, sym e)
+in_get_or d (tail m) = let (i, l, e) = in_get_or d m in (suc i, omega arith, e)
 
 -- a list of one symbol only
 pub says_same : (a x : ℕ) → Says (eqb a x) (x ≡ a)
@@ -53,10 +53,10 @@ map_cong f g [] h = refl
 map_cong f g (x ∷ xs) h = cc (h x here, map_cong f g xs (λ y m. h y (there m)))
 
 -- an element of a map is that of the list, mapped
-pub get_d_map : (f : ℕ → ℕ) (l : List ℕ) (j : ℕ) → j < length l → get_or (map f l) j 0 ≡ f (get_or l j 0)
-get_d_map f [] j lt = absurd (omega arith)
-get_d_map f (x ∷ l) zero lt = refl
-get_d_map f (x ∷ l) (suc j) lt = get_d_map f l j (omega arith)
+pub get_or_map : (f : ℕ → ℕ) (l : List ℕ) (j : ℕ) → j < length l → get_or (map f l) j 0 ≡ f (get_or l j 0)
+get_or_map f [] j lt = absurd (omega arith)
+get_or_map f (x ∷ l) zero lt = refl
+get_or_map f (x ∷ l) (suc j) lt = get_or_map f l j (omega arith)
 
 pub map-map : {A B C : Type 0} (g : B → C) (f : A → B) (xs : List A) → map g (map f xs) ≡ map (λ x. g (f x)) xs
 map-map g f [] = refl
@@ -121,7 +121,7 @@ module _ {A : Type 0} (p : A → Bool) where
       let e : bit (p x) ≡ 0 = rw (h x here) in
       omega (arith, count_cons p x xs, count_none xs (λ y m. h y (there m)))
 
-  pub count-pos : {xs : List A} {x : A} → x ∈ xs → p x ≡ true → 0 < count p xs
+  pub count-pos : {x : A} {xs : List A} → x ∈ xs → p x ≡ true → 0 < count p xs
   count-pos (head {x = y} {xs = ys} e) t =
       let e : bit (p y) ≡ 1 = rw (← e, t) in
       omega (arith, count_cons p y ys)
@@ -175,16 +175,16 @@ unfolding range
 length-range zero = refl
 length-range (suc n) = omega (arith, length-append (range n) (n ∷ []), length-range n)
 
-pub get_d_range : (n j : ℕ) → j < n → get_or (range n) j 0 ≡ j
+pub get_or_range : (n j : ℕ) → j < n → get_or (range n) j 0 ≡ j
 unfolding range
-get_d_range zero j lt = absurd (omega arith)
-get_d_range (suc n) j lt = elim (dec_lt j n) [
-  | yes l ↦ get_or-append (range n) (n ∷ []) 0 j (omega (arith, length-range n)) ∙ get_d_range n j l
+get_or_range zero j lt = absurd (omega arith)
+get_or_range (suc n) j lt = elim (dec_lt j n) [
+  | yes l ↦ get_or-append (range n) (n ∷ []) 0 j (omega (arith, length-range n)) ∙ get_or_range n j l
   | no l ↦ get_or_at (range n) n [] 0 j (omega (arith, length-range n)) ∙ omega arith
 ]
 
-pub get_d_map-range : (f : ℕ → ℕ) (n j : ℕ) → j < n → get_or (map f (range n)) j 0 ≡ f j
-get_d_map-range f n j lt = get_d_map f (range n) j (omega (arith, length-range n)) ∙ ap f (get_d_range n j lt)
+pub get_or_map-range : (f : ℕ → ℕ) (n j : ℕ) → j < n → get_or (map f (range n)) j 0 ≡ f j
+get_or_map-range f n j lt = get_or_map f (range n) j (omega (arith, length-range n)) ∙ ap f (get_or_range n j lt)
 
 -- a list over the numbers below m + k, in two parts
 map_back : {A B : Type 0} (g : A → B) (l : List A) (x : A) → map g (l ++ (x ∷ [])) ≡ map g l ++ (g x ∷ [])

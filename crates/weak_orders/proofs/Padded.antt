@@ -7,7 +7,7 @@ use native.Mathlib.Numerals.{add-one}
 use lib.ListN.{length, take, drop, get_or, set, replicate, length-append, length-replicate, length-drop, length-map, get_or-append}
 use lib.Seq.{length-take-le, set_at, append_snoc, take-suc, take_at, take_all, drop_at, get_or-drop, get_or-take, get_or_at}
 use Rattle.weak_orders.specs.Window.{padded, shifted}
-use Rattle.weak_orders.proofs.Lists.{get_d_map}
+use Rattle.weak_orders.proofs.Lists.{get_or_map}
 
 pub padded_nil : replicate 16 0 ≡ padded []
 unfolding padded
@@ -53,7 +53,7 @@ padded-map f w v n i x l h lt e q =
     let u = take n w in
     let size = length-take-le n w (omega arith) in
     let long = length-map u f in
-    padded-next (map f u) v i x (omega arith) (omega arith) e (q ∙ ap f (sym (get_or-take n w i 0 lt)) ∙ sym (get_d_map f u i (omega arith)))
+    padded-next (map f u) v i x (omega arith) (omega arith) e (q ∙ ap f (sym (get_or-take n w i 0 lt)) ∙ sym (get_or_map f u i (omega arith)))
 
 pub padded_mapped : (f : ℕ → ℕ) (w v : List ℕ) (n i : ℕ) → length w ≡ 16 → n ≤ 16 → i ≡ n → v ≡ padded (take i (map f (take n w))) →
     v ≡ padded (map f (take n w))

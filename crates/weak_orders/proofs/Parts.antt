@@ -8,7 +8,7 @@ use native.Mathlib.Decide.{dec_le}
 use lib.ListN.{length, take, drop, get_or, set, length-take, length-drop, drop_of_length-le}
 use lib.Seq.{length-take-le, take_all, get_or-drop, get_or-take, take-suc, drop-append-le, drop-cons, set_split, take-set-lt}
 use Rattle.weak_orders.proofs.Tests.{◌∈◌}
-use Rattle.weak_orders.proofs.Lists.{get_d_in, in_get_d}
+use Rattle.weak_orders.proofs.Lists.{get_or_in, in_get_or}
 
 -- no more than the whole is taken
 pub take_capped : (w : List ℕ) (n m : ℕ) → length w ≡ m → take (min n m) w ≡ take n w
@@ -33,11 +33,11 @@ module _ (w : List ℕ) (a n : ℕ) (le : n ≤ length w) where
   at_part k ak kn =
       let e : a + (k - a) ≡ k = omega arith in
       subst (λ (y : ℕ). y ∈ drop a (take n w)) (part_at (k - a) (omega arith) ∙ ap (λ (i : ℕ). get_or w i 0) e)
-      (get_d_in (drop a (take n w)) (k - a) 0 (omega (arith, part_length)))
+      (get_or_in (drop a (take n w)) (k - a) 0 (omega (arith, part_length)))
 
   pub of_part : (y : ℕ) → y ∈ drop a (take n w) → (k : ℕ) × (a ≤ k) × (k < n) × (get_or w k 0 ≡ y)
   of_part y m =
-      let (j, lt, e) = in_get_d 0 m in
+      let (j, lt, e) = in_get_or 0 m in
       (a + j, omega arith, omega (arith, part_length), sym (part_at j (omega (arith, part_length))) ∙ e)
 
 -- none, one more behind, and one less in front

@@ -152,6 +152,10 @@ ltb-same a b c d f g = by_test (ltb a b) (λ e. rw e (lt-ltb c d (f (ltb-true a 
 
 -- ---- the least symbol from a number on
 
+-- a symbol from u on that does not stand below v
+not_below : (u v y x : ℕ) → ¬ ((u ≤ y) × (y < v)) → x ≡ y → u ≤ x → v ≤ x
+not_below u v y x n e l = elim (dec_lt x v) [ yes lt ↦ absurd (n (omega arith)) | no ge ↦ omega arith ]
+
 -- some symbol from u on stands below v, or none does
 find : (w : List ℕ) (u v : ℕ) → ((x : ℕ) × (x ∈ w) × (u ≤ x) × (x < v)) ⊎ ((x : ℕ) → x ∈ w → u ≤ x → v ≤ x)
 find [] u v = inr (λ x m. nowhere m)
@@ -159,10 +163,7 @@ find (y ∷ b) u v = ⊎_elim
     (λ (x, m, l, lt). inl (x, there m, l, lt))
     (λ rest. elim (Dec.and (dec_le u y) (dec_lt y v)) [
       | yes (l, lt) ↦ inl (y, here, l, lt)
-      | no n ↦ inr (λ x m l. split_mem
-          (λ e. elim (dec_lt x v) [ yes lt ↦ absurd (n (omega arith)) | no ge ↦ omega arith ])
-          (λ m'. rest x m' l)
-          m)
+      | no n ↦ inr (λ x m l. split_mem (λ e. not_below u v y x n e l) (λ m'. rest x m' l) m)
     ])
     (find b u v)
 
@@ -286,7 +287,7 @@ module _ {w w' : List ℕ} {x : ℕ} (A : Added w x w') where
 
 -- ---- how many different symbols there are
 
-pub bound_in : {w : List ℕ} {x : ℕ} → x ∈ w → x < bound w
+pub bound_in : {x : ℕ} {w : List ℕ} → x ∈ w → x < bound w
 unfolding bound
 bound_in (head e) = omega arith
 bound_in (tail m) = omega (arith, bound_in m)

@@ -12,7 +12,7 @@ use borrow.Author.Tests.{lt-ltb, le-ltb, eq-eqb, ne_eqb}
 use Rattle.weak_orders.specs.Window.{count, range, num}
 use Rattle.weak_orders.specs.Tables.{tally}
 use Rattle.weak_orders.proofs.Tests.{bit}
-use Rattle.weak_orders.proofs.Lists.{length-range, get_d_map-range, count_nil, count_cons, count_append, count_le_length}
+use Rattle.weak_orders.proofs.Lists.{length-range, get_or_map-range, count_nil, count_cons, count_append, count_le_length}
 use Rattle.weak_orders.proofs.Symbols.{num_nil, num_front, num_append, num_le_length}
 
 pub tally-length : (l : List ℕ) → length (tally l) ≡ 18
@@ -29,7 +29,7 @@ pub tally-num : (l : List ℕ) (v : ℕ) → v ≤ 16 → get_or (tally l) v 0 �
 unfolding tally
 tally-num l v h =
     get_or-append (map (num l) (range 17)) (count (ltb 16) l ∷ []) 0 v (omega (arith, length-map (range 17) (num l), length-range 17))
-    ∙ get_d_map-range (num l) 17 v (omega arith)
+    ∙ get_or_map-range (num l) 17 v (omega arith)
 
 pub tally_larger : (l : List ℕ) → get_or (tally l) 17 0 ≡ count (ltb 16) l
 unfolding tally

@@ -1,6 +1,8 @@
 // Weak orders of n things, ties included: windows of n symbols, their rank form and their height form.
 // Rests on refusals for their causes. Knows no rule and no session.
 // A window is an array of 16 by value with n beside; the symbols past n are not looked at, and are 0 in every window made here.
+#![tactic(auto)]
+
 ghost use Rattle.std.specs.Prelude.{true, cond, [], ◌≡◌, min, suc, ◌≤◌, ◌<◌, ◌%◌, ◌^◌, ltb, take};
 ghost use Rattle.std.specs.Int.Count.{ones};
 ghost use Rattle.weak_orders.specs.Window.{below, height, heights, ranks, is_length, padded, loaded, shifted};
@@ -221,7 +223,7 @@ pub fn judge(n: usize, formed: bool) -> Verdict
 }
 
 // A window for an answer. Refused, it is sixteen zeros.
-#[derive(Drop)]
+#[derive(Clone, Copy)]
 pub struct WindowAnswer {
     pub verdict: Verdict,
     pub window: [u8; 16],

@@ -1,6 +1,8 @@
 // The C interface: direct calls on numbers and byte slices, declared in include/wko.h.
 // A thin layer over weak_orders, ranking, filling and successors: it loads the window, calls, and copies the answer out. The frame call for
 // firmware is in the module session.
+#![tactic(auto)]
+
 pub mod session;
 
 ghost use Rattle.std.specs.Prelude.{cond, ◌++◌, ◌≡◌, ◌≤◌, ltb, length, take, drop};
@@ -74,7 +76,7 @@ pub extern "C" fn wko_previous_symbol(n: u64, rule: u64, window: &[u8]) -> u32
 }
 
 // A rotation in numbers: where it starts, counted from 1, and the period of the window. A refusal is both of them.
-#[derive(Drop)]
+#[derive(Clone, Copy)]
 struct RotationNumbers {
     start: u32,
     period: u32,
@@ -186,7 +188,7 @@ pub extern "C" fn wko_height_to_rank(n: u64, window: &[u8], out: &mut [u8]) -> u
 }
 
 // A number in eight bytes, little-endian; refused, eight zeros.
-#[derive(Drop)]
+#[derive(Clone, Copy)]
 struct NumberBytes {
     verdict: Verdict,
     bytes: [u8; 8],

@@ -7,7 +7,7 @@ use stepper::session::Session;
 
 // The session after a frame, and 0 or the number of the refusal.
 #[repr(C)]
-#[derive(Drop)]
+#[derive(Clone, Copy)]
 pub struct Exchanged {
     pub session: Session,
     pub number: u32,
@@ -15,7 +15,7 @@ pub struct Exchanged {
 
 // The session after a level file, and 0 or 16.
 #[repr(C)]
-#[derive(Drop)]
+#[derive(Clone, Copy)]
 pub struct Loaded {
     pub session: Session,
     pub number: u32,

@@ -1,0 +1,20 @@
+-- `ranking::window_of` meets its contract. The loop's invariant: the array holds the first i symbols of the window, and `left` is its place
+-- among the windows that begin so. Assumes nothing.
+use mathlib.Core.Path.{◌≡◌}
+use Prim.Native.Nat.{◌-◌, ◌≤◌}
+use native.Mathlib.Omega.{arith}
+use lib.ListN.{take}
+use Rattle.weak_orders.specs.Window.{padded}
+use Rattle.weak_orders.proofs.Padded.{padded_nil, padded-all}
+use Rattle.ranking.specs.Dictionary.{window_at}
+use Rattle.ranking.proofs.Loops.{found_low, found_within, found_next}
+use Rattle.ranking.proofs.Places.{heights-numbered}
+use Rattle.ranking.proofs.WindowAt.{Reached, reached_start}
+use borrow.Author.Rules.{rules}
+use Rattle.ranking.proofs.window_of.Given as goal
+
+abbrev pub invariant-loop-i : goal.invariant-loop-i
+invariant-loop-i l = (l.i ≤ l.n) × (l.window ≡ padded (take l.i (window_at l.n l.place))) × Reached l.n (window_at l.n l.place) l.i l.left
+
+abbrev pub decreases-loop-i : goal.decreases-loop-i
+decreases-loop-i l = l.n - l.i

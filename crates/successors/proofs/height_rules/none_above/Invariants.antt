@@ -1,0 +1,18 @@
+-- `none_above` tests each symbol behind the first. The loop's invariant: the test of all of them is the test of those from i on.
+-- The measure is what is left of n. Assumes nothing.
+use mathlib.Core.Path.{◌≡◌}
+use Prim.Native.Nat.{◌≤◌, ◌-◌}
+use native.Mathlib.Omega.{arith}
+use borrow.Author.Rules.{rules}
+use borrow.Author.Tests.{le-leb, lt-leb}
+use lib.Dec.{leb}
+use lib.ListN.{length, take, drop}
+use Rattle.weak_orders.specs.Window.{all}
+use Rattle.successors.proofs.Scans.{scan_passes, scan_fails, scan_ends}
+use Rattle.successors.proofs.height_rules.none_above.Given as goal
+
+abbrev pub invariant-loop-i : goal.invariant-loop-i
+invariant-loop-i l = all (λ v. leb v l.x) (drop 1 (take l.n l.w)) ≡ all (λ v. leb v l.x) (drop l.i (take l.n l.w))
+
+abbrev pub decreases-loop-i : goal.decreases-loop-i
+decreases-loop-i l = l.n - l.i

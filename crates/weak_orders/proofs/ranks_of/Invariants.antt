@@ -1,0 +1,15 @@
+-- `ranks_of`: the array holds the ranks found so far. Assumes nothing.
+use borrow.Author.Rules.{rules}
+use mathlib.Core.Path.{◌≡◌, refl}
+use Prim.Native.Nat.{suc, ◌≤◌, ◌-◌}
+use native.Mathlib.Omega.{arith}
+use lib.ListN.{length, take, length-set}
+use Rattle.weak_orders.specs.Window.{below, ranks, padded}
+use Rattle.weak_orders.proofs.Padded.{padded-map, padded_mapped}
+use Rattle.weak_orders.proofs.ranks_of.Given as goal
+
+abbrev pub invariant-loop-i : goal.invariant-loop-i
+invariant-loop-i l = (l.i ≤ l.n) × (l.v ≡ padded (take l.i (ranks (take l.n l.w)))) × (length l.v ≡ 16)
+
+abbrev pub decreases-loop-i : goal.decreases-loop-i
+decreases-loop-i l = l.n - l.i

@@ -1,0 +1,17 @@
+-- `shift`: the array holds the symbols moved so far. Assumes nothing.
+use borrow.Author.Rules.{rules}
+use mathlib.Core.Path.{◌≡◌, refl, sym, ◌∙◌}
+use Prim.Native.Nat.{◌≤◌, ◌-◌, ◌+◌}
+use native.Mathlib.Omega.{arith}
+use lib.ListN.{length, take, length-set}
+use borrow.Author.Tests.{not-true, not-false}
+use Rattle.weak_orders.specs.Window.{padded, shifted}
+use Rattle.weak_orders.proofs.Padded.{padded-next, padded-all, shifted-length, shifted_at, shifted_last}
+use Rattle.weak_orders.proofs.FormTests.{says_length}
+use Rattle.weak_orders.proofs.shift.Given as goal
+
+abbrev pub invariant-loop-i : goal.invariant-loop-i
+invariant-loop-i l = (1 ≤ l.n) × (l.n ≤ 16) × (l.i ≤ l.n - 1) × (l.v ≡ padded (take l.i (shifted (take l.n l.w) l.s))) × (length l.v ≡ 16)
+
+abbrev pub decreases-loop-i : goal.decreases-loop-i
+decreases-loop-i l = l.n - 1 - l.i
