@@ -217,7 +217,7 @@ impl<I: Read, O: Write, E: Write> Streams<'_, I, O, E> {
         ensures { Reached 1000000 result }
     {
         let mut session = Session::fresh();
-        for _ in 0..1_000_000 {
+        for _ in 0..1_000_000u32 {
             let played = self.play(kind, session);
             if !played.more {
                 return session;
