@@ -3,6 +3,7 @@
 #![tactic(auto)]
 
 ghost use Rattle.std.specs.Prelude.{true, false, ◌≡◌, ◌≤◌, ◌<◌, length, drop};
+ghost use Rattle.std.specs.Io.KnownBytes.{Appends, Consumes};
 ghost use Rattle.stepper.specs.Exchange.{exchange, load_levels};
 ghost use Rattle.records.specs.Answered.{numbered, answered, Comes, Reached};
 
@@ -92,19 +93,28 @@ fn answer(session: Session, file: bool, bytes: &[u8], out: &mut [u8]) -> Session
 
 impl<I: Read, O: Write, E: Write> Streams<'_, I, O, E> {
     // What the stream does not take is lost: there is nothing left to say it on.
-    fn say(&mut self, what: &[u8]) {
+    fn say(&mut self, what: &[u8])
+        ensures input { self.new.input ≡ self.old.input }
+        ensures output { self.new.output ≡ self.old.output }
+    {
         let _ = self.errors.write_all(self.name);
         let _ = self.errors.write_all(what);
     }
 
     // With the system's reason.
-    fn say_failed(&mut self, what: &[u8], error: io::Error) {
+    fn say_failed(&mut self, what: &[u8], error: io::Error)
+        ensures input { self.new.input ≡ self.old.input }
+        ensures output { self.new.output ≡ self.old.output }
+    {
         let _ = self.errors.write_all(self.name);
         failures::say(&mut self.errors, what, error);
     }
 
     // Whether a part of a record was read. If not, that is said, unless the record starts with this part and the input ends before it.
-    fn read_part(&mut self, part: &mut [u8], first: bool) -> bool {
+    fn read_part(&mut self, part: &mut [u8], first: bool) -> bool
+        ensures taken { result ≡ true → Consumes (I.remaining self.old.input) (I.remaining self.new.input) part.new }
+        ensures output { self.new.output ≡ self.old.output }
+    {
         let got = input::fill(&mut self.input, part);
         if let Some(error) = got.failed {
             self.say_failed(b": could not read a record", error);
@@ -121,7 +131,9 @@ impl<I: Read, O: Write, E: Write> Streams<'_, I, O, E> {
 
     // The answer is written. If it cannot be, that is said, and no record may follow the gap.
     fn write_answer(&mut self, out: &[u8], next: Session) -> Played
-        ensures { result.session ≡ next }
+        ensures session { result.session ≡ next }
+        ensures written { result.more ≡ true → Appends (O.contents self.old.output) (O.contents self.new.output) out.now }
+        ensures input { self.new.input ≡ self.old.input }
     {
         let written = self.output.write_all(out);
         let more = written.is_ok();
@@ -137,7 +149,9 @@ impl<I: Read, O: Write, E: Write> Streams<'_, I, O, E> {
     // A level file or a frame that fills its slice, answered in `out`, which is what is written.
     fn play_in(&mut self, session: Session, file: bool, bytes: &mut [u8], out: &mut [u8]) -> Played
         requires { 1 ≤ length out.old }
-        ensures { result.more ≡ true → (result.session, out.new) ≡ answered file session bytes.new (drop 1 out.old) }
+        ensures answered { result.more ≡ true → (result.session, out.new) ≡ answered file session bytes.new (drop 1 out.old) }
+        ensures taken { result.more ≡ true → Consumes (I.remaining self.old.input) (I.remaining self.new.input) bytes.new }
+        ensures written { result.more ≡ true → Appends (O.contents self.old.output) (O.contents self.new.output) out.new }
     {
         if !self.read_part(bytes, false) {
             return ended(session);

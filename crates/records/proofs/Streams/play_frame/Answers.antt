@@ -4,4 +4,4 @@ use Rattle.records.proofs.Reaching.{record_comes}
 use Rattle.records.proofs.Streams.play_frame.Goals as goal
 
 pub returns : goal.returns
-returns g c = λ t. record_comes false _ _ _ _ _ (c.play_in.ensures t)
+returns g c = λ t. record_comes false _ _ _ _ _ (c.play_in.ensures.answered t)
