@@ -2,10 +2,11 @@
 // Rests on handler for what a record comes to, on input for reads, and on failures for what is said of one that failed.
 #![tactic(auto)]
 
-ghost use Rattle.std.specs.Prelude.{true, false, ◌≡◌, ◌≤◌, ◌<◌, length, drop};
+ghost use Rattle.std.specs.Prelude.{true, false, ◌≡◌, ◌≤◌, ◌<◌, ℕ, List, length, drop, replicate};
 ghost use Rattle.std.specs.Io.KnownBytes.{Appends, Consumes};
 ghost use Rattle.stepper.specs.Exchange.{exchange, load_levels};
 ghost use Rattle.records.specs.Answered.{numbered, answered, Comes, Reached};
+ghost use Rattle.records.specs.Runs.{IsFront, Cut};
 
 use frames::answer;
 use std::io;
@@ -36,13 +37,16 @@ struct Played {
 }
 
 fn wide(x: u8) -> usize
-    ensures { result < 256 }
+    ensures value { result ≡ x }
+    ensures small { result < 256 }
 {
     x as usize
 }
 
 // An answer buffer with room for the number in front.
-fn filled() -> [u8; 256] {
+fn filled() -> [u8; 256]
+    ensures { result ≡ replicate 256 165 }
+{
     [165u8; 256]
 }
 
@@ -112,6 +116,7 @@ impl<I: Read, O: Write, E: Write> Streams<'_, I, O, E> {
 
     // Whether a part of a record was read. If not, that is said, unless the record starts with this part and the input ends before it.
     fn read_part(&mut self, part: &mut [u8], first: bool) -> bool
+        ensures some { (bs : List ℕ) × Consumes (I.remaining self.old.input) (I.remaining self.new.input) bs }
         ensures taken { result ≡ true → Consumes (I.remaining self.old.input) (I.remaining self.new.input) part.new }
         ensures output { self.new.output ≡ self.old.output }
     {
@@ -133,15 +138,15 @@ impl<I: Read, O: Write, E: Write> Streams<'_, I, O, E> {
     fn write_answer(&mut self, out: &[u8], next: Session) -> Played
         ensures session { result.session ≡ next }
         ensures written { result.more ≡ true → Appends (O.contents self.old.output) (O.contents self.new.output) out.now }
+        ensures cut { (bs : List ℕ) × IsFront bs out.now × Appends (O.contents self.old.output) (O.contents self.new.output) bs }
         ensures input { self.new.input ≡ self.old.input }
     {
-        let written = self.output.write_all(out);
-        let more = written.is_ok();
-        if let Err(error) = written {
+        let put = output::put(&mut self.output, out);
+        if let Some(error) = put.failed {
             self.say_failed(b": could not write an answer", error);
         }
         Played {
-            more,
+            more: put.failed.is_none(),
             session: next,
         }
     }
@@ -152,6 +157,7 @@ impl<I: Read, O: Write, E: Write> Streams<'_, I, O, E> {
         ensures answered { result.more ≡ true → (result.session, out.new) ≡ answered file session bytes.new (drop 1 out.old) }
         ensures taken { result.more ≡ true → Consumes (I.remaining self.old.input) (I.remaining self.new.input) bytes.new }
         ensures written { result.more ≡ true → Appends (O.contents self.old.output) (O.contents self.new.output) out.new }
+        ensures cut { result.more ≡ false → Cut bytes.new (answered file session bytes.new (drop 1 out.old)).1 (I.remaining self.old.input) (I.remaining self.new.input) (O.contents self.old.output) (O.contents self.new.output) }
     {
         if !self.read_part(bytes, false) {
             return ended(session);
