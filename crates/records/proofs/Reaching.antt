@@ -14,7 +14,7 @@ record_comes false s t bytes buffer out e = record {
 }
 
 -- an event more, at the end of a list
-after_more : (s : Session) (l : List Event) (e : Event) → after s (l ++ (e ∷ [])) ≡ next (after s l) e
+pub after_more : (s : Session) (l : List Event) (e : Event) → after s (l ++ (e ∷ [])) ≡ next (after s l) e
 unfolding after
 after_more s [] e = refl
 after_more s (x ∷ l) e = after_more (next s x) l e

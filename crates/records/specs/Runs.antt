@@ -1,9 +1,9 @@
 -- What a run of records takes from its input and what it writes, where the bytes of both are known: the records' bytes in order, and for each its
 -- answer, in order and without a gap.
-use Rattle.std.specs.Prelude.{true, false, List, [], ◌∷◌, ◌++◌, ◌≡◌, ◌⊎◌, ⊤, ℕ, ◌/◌, ◌%◌, ◌≤◌, length, take, replicate, Option, All}
+use Rattle.std.specs.Prelude.{Bool, true, false, List, [], ◌∷◌, ◌++◌, ◌≡◌, ◌⊎◌, ⊤, ℕ, ◌/◌, ◌%◌, ◌≤◌, length, take, replicate, Option, All, MatchBool}
 use Rattle.std.specs.Io.KnownBytes.{Appends, Consumes}
 use Rattle.stepper.specs.declared.session.Session.{Session}
-use Rattle.stepper.specs.Exchange.{fresh, exchange, load_levels}
+use Rattle.stepper.specs.Exchange.{fresh}
 use Rattle.stepper.specs.ExactlyOnce.{Event, question, level_file, next, after}
 use Rattle.records.specs.declared.Kind.{Kind}
 use Rattle.records.specs.declared.Kind.TheVariants.{Frames, Events}
@@ -69,6 +69,10 @@ pub record Ends (bytes : Event → List ℕ) (holds : Event → Type 0) (s : Ses
   pub taken : Consumes in₀ in₁ rest
   pub written : Appends out₀ out₁ gap
   pub cut : (gap ≡ []) ⊎ ((e : Event) × holds e × (rest ≡ bytes e) × IsFront gap (answer_to s e))
+
+-- either, as `more` says
+abbrev pub PlaysOrEnds : (Event → List ℕ) → (Event → Type 0) → Session → Bool → Session → Option (List ℕ) → Option (List ℕ) → Option (List ℕ) → Option (List ℕ) → Type 0
+PlaysOrEnds bytes holds s more t in₀ in₁ out₀ out₁ = MatchBool more (Plays bytes holds s t in₀ in₁ out₀ out₁) (Ends bytes holds s in₀ in₁ out₀ out₁)
 
 -- the same of a part that was to be read, and of what was to be written for it
 pub record Cut (part answer : List ℕ) (in₀ in₁ out₀ out₁ : Option (List ℕ)) : Type 0 where

@@ -6,7 +6,7 @@ ghost use Rattle.std.specs.Prelude.{true, false, ◌≡◌, ◌≤◌, ◌<◌, 
 ghost use Rattle.std.specs.Io.KnownBytes.{Appends, Consumes};
 ghost use Rattle.stepper.specs.Exchange.{exchange, load_levels};
 ghost use Rattle.records.specs.Answered.{numbered, answered, Comes, Reached};
-ghost use Rattle.records.specs.Runs.{IsFront, Cut};
+ghost use Rattle.records.specs.Runs.{IsFront, Cut, body_of, record_of, IsFrame, IsFile, IsOf, PlaysOrEnds, Ran};
 
 use frames::answer;
 use std::io;
@@ -168,7 +168,8 @@ impl<I: Read, O: Write, E: Write> Streams<'_, I, O, E> {
 
     // A record of a frame, from its lengths on. `first` says that it starts with them.
     fn play_frame(&mut self, session: Session, first: bool) -> Played
-        ensures { result.more ≡ true → Comes session result.session }
+        ensures comes { result.more ≡ true → Comes session result.session }
+        ensures plays { PlaysOrEnds body_of IsFrame session result.more result.session (I.remaining self.old.input) (I.remaining self.new.input) (O.contents self.old.output) (O.contents self.new.output) }
     {
         let mut lengths = [0u8; 2];
         if !self.read_part(&mut lengths, first) {
@@ -183,7 +184,8 @@ impl<I: Read, O: Write, E: Write> Streams<'_, I, O, E> {
 
     // A record of a level file, from its length on. The buffer has room for any length that two bytes can say.
     fn play_file(&mut self, session: Session) -> Played
-        ensures { result.more ≡ true → Comes session result.session }
+        ensures comes { result.more ≡ true → Comes session result.session }
+        ensures plays { PlaysOrEnds body_of IsFile session result.more result.session (I.remaining self.old.input) (I.remaining self.new.input) (O.contents self.old.output) (O.contents self.new.output) }
     {
         let mut lengths = [0u8; 2];
         if !self.read_part(&mut lengths, false) {
@@ -199,7 +201,8 @@ impl<I: Read, O: Write, E: Write> Streams<'_, I, O, E> {
 
     // A record of a frame or of a level file, by its first byte.
     fn play_event(&mut self, session: Session) -> Played
-        ensures { result.more ≡ true → Comes session result.session }
+        ensures comes { result.more ≡ true → Comes session result.session }
+        ensures plays { PlaysOrEnds (record_of Kind.Events) (IsOf Kind.Events) session result.more result.session (I.remaining self.old.input) (I.remaining self.new.input) (O.contents self.old.output) (O.contents self.new.output) }
     {
         let mut letter = [0u8; 1];
         if !self.read_part(&mut letter, true) {
@@ -216,7 +219,8 @@ impl<I: Read, O: Write, E: Write> Streams<'_, I, O, E> {
     }
 
     fn play(&mut self, kind: Kind, session: Session) -> Played
-        ensures { result.more ≡ true → Comes session result.session }
+        ensures comes { result.more ≡ true → Comes session result.session }
+        ensures plays { PlaysOrEnds (record_of kind) (IsOf kind) session result.more result.session (I.remaining self.old.input) (I.remaining self.new.input) (O.contents self.old.output) (O.contents self.new.output) }
     {
         match kind {
             Kind::Frames => self.play_frame(session, true),
@@ -225,7 +229,10 @@ impl<I: Read, O: Write, E: Write> Streams<'_, I, O, E> {
     }
 
     // Records behind the millionth are not played. If there are any, that is said.
-    fn report_rest(&mut self) {
+    fn report_rest(&mut self)
+        ensures some { (bs : List ℕ) × Consumes (I.remaining self.old.input) (I.remaining self.new.input) bs }
+        ensures output { self.new.output ≡ self.old.output }
+    {
         let mut next = [0u8; 1];
         if self.read_part(&mut next, true) {
             self.say(b": stopped after 1000000 records\n");
@@ -234,7 +241,8 @@ impl<I: Read, O: Write, E: Write> Streams<'_, I, O, E> {
 
     // A record a turn. A million is an end, so that the run is proved to have one. Gives the session that the answered records left.
     pub fn run(&mut self, kind: Kind) -> Session
-        ensures { Reached 1000000 result }
+        ensures reached { Reached 1000000 result }
+        ensures ran { Ran kind 1000000 result (I.remaining self.old.input) (I.remaining self.new.input) (O.contents self.old.output) (O.contents self.new.output) }
     {
         let mut session = Session::fresh();
         for _ in 0..1_000_000u32 {
