@@ -1,5 +1,5 @@
 // One session through the records of an input: what the programs replay and replay_events do. Their sources say what a record is.
-// Rests on handler for what a record comes to, on input for reads, and on failures for what is said of one that failed.
+// Rests on handler for what a record comes to, on input for reads, on output for writes, and on failures for what is said of one that failed.
 #![tactic(auto)]
 
 ghost use Rattle.std.specs.Prelude.{true, false, ◌≡◌, ◌≤◌, ◌<◌, ℕ, List, length, drop, replicate};
@@ -157,7 +157,9 @@ impl<I: Read, O: Write, E: Write> Streams<'_, I, O, E> {
         ensures answered { result.more ≡ true → (result.session, out.new) ≡ answered file session bytes.new (drop 1 out.old) }
         ensures taken { result.more ≡ true → Consumes (I.remaining self.old.input) (I.remaining self.new.input) bytes.new }
         ensures written { result.more ≡ true → Appends (O.contents self.old.output) (O.contents self.new.output) out.new }
-        ensures cut { result.more ≡ false → Cut bytes.new (answered file session bytes.new (drop 1 out.old)).1 (I.remaining self.old.input) (I.remaining self.new.input) (O.contents self.old.output) (O.contents self.new.output) }
+        ensures cut { result.more ≡ false → Cut bytes.new (answered file session bytes.new (drop 1 out.old)).1
+            (I.remaining self.old.input) (I.remaining self.new.input)
+            (O.contents self.old.output) (O.contents self.new.output) }
     {
         if !self.read_part(bytes, false) {
             return ended(session);
@@ -169,7 +171,9 @@ impl<I: Read, O: Write, E: Write> Streams<'_, I, O, E> {
     // A record of a frame, from its lengths on. `first` says that it starts with them.
     fn play_frame(&mut self, session: Session, first: bool) -> Played
         ensures comes { result.more ≡ true → Comes session result.session }
-        ensures plays { PlaysOrEnds body_of IsFrame session result.more result.session (I.remaining self.old.input) (I.remaining self.new.input) (O.contents self.old.output) (O.contents self.new.output) }
+        ensures plays { PlaysOrEnds body_of IsFrame session result.more result.session
+            (I.remaining self.old.input) (I.remaining self.new.input)
+            (O.contents self.old.output) (O.contents self.new.output) }
     {
         let mut lengths = [0u8; 2];
         if !self.read_part(&mut lengths, first) {
@@ -185,7 +189,9 @@ impl<I: Read, O: Write, E: Write> Streams<'_, I, O, E> {
     // A record of a level file, from its length on. The buffer has room for any length that two bytes can say.
     fn play_file(&mut self, session: Session) -> Played
         ensures comes { result.more ≡ true → Comes session result.session }
-        ensures plays { PlaysOrEnds body_of IsFile session result.more result.session (I.remaining self.old.input) (I.remaining self.new.input) (O.contents self.old.output) (O.contents self.new.output) }
+        ensures plays { PlaysOrEnds body_of IsFile session result.more result.session
+            (I.remaining self.old.input) (I.remaining self.new.input)
+            (O.contents self.old.output) (O.contents self.new.output) }
     {
         let mut lengths = [0u8; 2];
         if !self.read_part(&mut lengths, false) {
@@ -202,7 +208,9 @@ impl<I: Read, O: Write, E: Write> Streams<'_, I, O, E> {
     // A record of a frame or of a level file, by its first byte.
     fn play_event(&mut self, session: Session) -> Played
         ensures comes { result.more ≡ true → Comes session result.session }
-        ensures plays { PlaysOrEnds (record_of Kind.Events) (IsOf Kind.Events) session result.more result.session (I.remaining self.old.input) (I.remaining self.new.input) (O.contents self.old.output) (O.contents self.new.output) }
+        ensures plays { PlaysOrEnds (record_of Kind.Events) (IsOf Kind.Events) session result.more result.session
+            (I.remaining self.old.input) (I.remaining self.new.input)
+            (O.contents self.old.output) (O.contents self.new.output) }
     {
         let mut letter = [0u8; 1];
         if !self.read_part(&mut letter, true) {
@@ -220,7 +228,9 @@ impl<I: Read, O: Write, E: Write> Streams<'_, I, O, E> {
 
     fn play(&mut self, kind: Kind, session: Session) -> Played
         ensures comes { result.more ≡ true → Comes session result.session }
-        ensures plays { PlaysOrEnds (record_of kind) (IsOf kind) session result.more result.session (I.remaining self.old.input) (I.remaining self.new.input) (O.contents self.old.output) (O.contents self.new.output) }
+        ensures plays { PlaysOrEnds (record_of kind) (IsOf kind) session result.more result.session
+            (I.remaining self.old.input) (I.remaining self.new.input)
+            (O.contents self.old.output) (O.contents self.new.output) }
     {
         match kind {
             Kind::Frames => self.play_frame(session, true),
@@ -242,7 +252,9 @@ impl<I: Read, O: Write, E: Write> Streams<'_, I, O, E> {
     // A record a turn. A million is an end, so that the run is proved to have one. Gives the session that the answered records left.
     pub fn run(&mut self, kind: Kind) -> Session
         ensures reached { Reached 1000000 result }
-        ensures ran { Ran kind 1000000 result (I.remaining self.old.input) (I.remaining self.new.input) (O.contents self.old.output) (O.contents self.new.output) }
+        ensures ran { Ran kind 1000000 result
+            (I.remaining self.old.input) (I.remaining self.new.input)
+            (O.contents self.old.output) (O.contents self.new.output) }
     {
         let mut session = Session::fresh();
         for _ in 0..1_000_000u32 {

@@ -1,5 +1,6 @@
 -- What a write took of the rest is behind what was written before.
-use Rattle.std.proofs.Common.{◌≡◌, ℕ, ◌+◌, ◌-◌, List, ◌++◌, rules, arith, length, take, drop, sym, ap, ◌∙◌, subst, take_all, length-drop}
+use Rattle.std.proofs.Common.{◌≡◌, ℕ, ◌+◌, ◌-◌, List, ◌++◌, rules, length, take, drop, sym, ap, ◌∙◌, subst}
+use Rattle.std.proofs.lemmas.List.{take_rest}
 use Rattle.std.proofs.KnownBytes.{Appends-trans}
 use Rattle.std.specs.Io.KnownBytes.{Appends}
 use lib.Seq.{take-add}
@@ -7,7 +8,7 @@ use Rattle.output.proofs.put.Goals as goal
 
 joined : (a n : ℕ) (xs : List ℕ) → take a xs ++ take n (take (length xs - a) (drop a xs)) ≡ take (a + n) xs
 joined a n xs =
-    ap (λ l. take a xs ++ take n l) (take_all (length xs - a) (drop a xs) (omega (arith, length-drop a xs))) ∙ sym (take-add a n xs)
+    ap (λ l. take a xs ++ take n l) (take_rest xs a) ∙ sym (take-add a n xs)
 
 pub loop-len-preserved : goal.loop-len-preserved
 loop-len-preserved g c =
