@@ -3,11 +3,12 @@ CC = gcc
 CFLAGS = -std=c11 -O2 -Wall -Wextra -D_DEFAULT_SOURCE
 LIB = target/staticlib/libwko.a
 HEADERS = include/wko.h include/wko_frames.h
-SOURCES := crates.txt $(shell find crates -name '*.rt' -o -name '*.antt')
+SOURCES := crates.txt $(shell find crates -name out -prune -o -name '*.rt' -print -o -name '*.antt' -print)
+CRATES := $(shell sed 's/[^a-z0-9_].*//' crates.txt)
 EXAMPLES = target/host/example target/host/link target/host/fill
 TESTS = target/host/test_calls target/host/test_session target/host/test_hosts target/host/stack
 MODELS = target/host/replay_records target/host/event_records target/host/sheet_answers target/host/step_counts
-PROGRAMS = target/bin/round target/bin/step_kinds
+PROGRAMS = target/bin/round target/bin/step_kinds target/bin/replay target/bin/replay_events
 
 .PHONY: help run kinds test lib host host-test install uninstall dev fmt edits rings graph tables trust size bench clean
 
@@ -31,13 +32,21 @@ endef
 kinds: target/bin/step_kinds
 	@$(call watched,target/bin/step_kinds)
 
-$(PROGRAMS): target/bin/%: $(SOURCES)
+# rt leaves what it builds in a crate's out/.
+.SECONDEXPANSION:
+$(PROGRAMS): target/bin/%: crates/$$*/out/$$*
+	@mkdir -p $(@D)
+	@cp $< $@
+
+# A program is built by rt ci, or else by running it, which is done here on its stored run.
+$(foreach p,$(notdir $(PROGRAMS)),crates/$p/out/$p): $(SOURCES)
 	@mkdir -p target
-	@echo "building $@; what it rests on is proved first, some minutes where nothing is yet" >&2
-	@rt check $* >target/$*.log 2>&1 || { tail -n 20 target/$*.log; exit 1; }
+	@echo "building $(@F); what it rests on is proved first, some minutes where nothing is yet" >&2
+	@(cd crates/$(@F) && rt run) <$(firstword $(wildcard crates/$(@F)/stdin) /dev/null) 2>target/$(@F).log | cmp - crates/$(@F)/stdout || \
+	{ tail -n 20 target/$(@F).log; exit 1; }
 	@touch $@ # it keeps its old time where nothing in it has changed
 
-## make test                    the gate: removes target/, proves all from nothing, tries the edits that must fail, runs the programs and host tests
+## make test                    the gate: proves all, tries the edits that must fail, runs the programs and host tests
 test:
 	@.ci/run
 
@@ -46,11 +55,11 @@ lib: $(LIB)
 	@echo "library: $(LIB)"
 	@echo "headers: $(HEADERS)"
 
-$(LIB): $(SOURCES)
-	@mkdir -p target
-	@echo "building $(LIB); what it rests on is proved first, some minutes where nothing is yet" >&2
-	@rt staticlib wko >target/staticlib.log 2>&1 || { tail -n 20 target/staticlib.log; exit 1; }
-	@touch $@
+$(LIB) target/staticlib/libwalk.a: target/staticlib/lib%.a: $(SOURCES)
+	@mkdir -p $(@D)
+	@echo "building $@; what it rests on is proved first, some minutes where nothing is yet" >&2
+	@(cd crates/$* && rt lib) >target/$*.log 2>&1 || { tail -n 20 target/$*.log; exit 1; }
+	@cp crates/$*/out/lib$*.a $@
 
 ## make install [PREFIX=dir]    headers, library, wko.pc for pkg-config and the manual page, below /usr/local or the directory; DESTDIR too
 PREFIX = /usr/local
@@ -98,18 +107,18 @@ target/host/%: host/%.c $(wildcard host/*.h) host/reference.c host/session_model
 
 ## make dev C=crate             checks one crate, in seconds: the loop of working on it, not the verdict
 dev:
-	@rt dev $(crate)
+	@cd crates/$(crate) && rt check
 
 ## make edits C=crate           tries the edits of one crate that must fail, and prints the error that refused each
 edits:
-	@tools/edits.sh $(crate)
+	@rt must-fail $(crate)
 
-## make fmt                     lays out the sources
+## make fmt                     lays out the sources, and names the edits that must fail whose text it has moved
 fmt:
-	@rt fmt
+	@for c in $(CRATES); do (cd crates/$$c && rt fmt) || exit 1; done
 
 # the crate that C names
-crate = $(or $(C),$(error say which crate: make $@ C=crate, one of $(shell sed 's/:.*//' crates.txt)))
+crate = $(or $(C),$(error say which crate: make $@ C=crate, one of $(CRATES)))
 
 ## make rings                   draws the README's pictures of a round from what the program prints
 rings: target/bin/round
@@ -145,13 +154,10 @@ target/host/print_round: bench/print_round.c bench/baseline.c bench/baseline.h
 	@mkdir -p target/host
 	@$(CC) -std=c11 -O3 -Wall -Wextra -o $@ bench/print_round.c bench/baseline.c
 
-target/staticlib/libwalk.a: $(LIB)
-	@rt staticlib walk >target/staticlib.log 2>&1 || { tail -n 20 target/staticlib.log; exit 1; }
-
 target/host/bench: bench/bench.c bench/baseline.c bench/baseline.h $(HEADERS) $(LIB) target/staticlib/libwalk.a
 	@mkdir -p target/host
 	@$(CC) -std=c11 -O3 -D_DEFAULT_SOURCE -o $@ bench/bench.c bench/baseline.c $(LIB) target/staticlib/libwalk.a
 
-## make clean                   removes target/, with all that is built and proved
+## make clean                   removes target/ and crates/*/out/, with all that is built and proved here
 clean:
-	rm -rf target
+	rm -rf target crates/*/out

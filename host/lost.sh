@@ -2,8 +2,6 @@
 # Nothing is lost silently: what round, replay, replay_events and step_kinds could not read or write, they say in one line on standard error; of a
 # good run they say nothing.
 set -u
-# these two are no targets of the Makefile
-rt check replay replay_events >target/replay.log 2>&1 || { tail -n 20 target/replay.log && exit 1; }
 round=target/bin/round
 said=target/host/said
 input=target/host/input

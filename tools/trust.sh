@@ -4,7 +4,7 @@
 set -eu
 cd "$(dirname "$0")/.."
 lines() { # lines DIRECTORY ENDING COMMENT: over all crates, what stands in such files
-  find crates -path "crates/*/$1/*" -name "*.$2" -exec cat {} + | grep -cv -e '^ *$' -e "^ *$3" -e '^use ' -e '^ghost use ' -e '^\(pub \)\{0,1\}mod '
+  find crates -name out -prune -o -path "crates/*/$1/*" -name "*.$2" -exec cat {} + | grep -cv -e '^ *$' -e "^ *$3" -e '^use ' -e '^ghost use ' -e '^\(pub \)\{0,1\}mod '
 }
 printf '%6d lines of definitions and claims to believe (crates/*/specs)\n' "$(lines specs antt --)"
 printf '%6d lines of proof that the prover checks (crates/*/proofs)\n' "$(lines proofs antt --)"

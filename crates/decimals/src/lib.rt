@@ -37,7 +37,7 @@ pub fn begins_with(s: &[u8], t: &[u8]) -> bool
     if s.len() < t.len() {
         return false;
     }
-    check::same(&s[..t.len()], t)
+    &s[..t.len()] == t
 }
 
 // The byte at an index is b.

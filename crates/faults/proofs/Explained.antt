@@ -14,7 +14,7 @@ use Rattle.refusals.specs.declared.Verdict.{Verdict}
 use Rattle.refusals.specs.declared.Verdict.TheVariants.{Refused}
 use Rattle.successors.specs.Rules.{in_form, is_rule}
 use Rattle.levels.specs.Level.{setting_of, top_ok, spacing_ok, even_ok, setting_ok}
-use Rattle.levels.proofs.Levels.{no_table_lem}
+use Rattle.levels.proofs.Levels.{no_table}
 use Rattle.sheets.specs.Sheet.{RawSheet, longest, has_title, parse}
 use Rattle.sheets.specs.Judgement.{judged, judged_sheet, judged_text}
 use Rattle.faults.specs.Faults.{has_byte, ends_line, malformed, start_fault, setting_fault, sheet_fault, text_fault, fault_of}
@@ -82,7 +82,7 @@ module _ (s : List ℕ) (x : RawSheet) (q : parse s ≡ some x) where
   setting_explains e = by_test (top_ok x.top)
       (λ t. by_test (spacing_ok x.spacing)
       (λ u.
-      let low : TooLow x = record { top = t; spacing = u; level = rw (t, u) at (sym (no_table_lem x.n x.top x.spacing) ∙ e) } in
+      let low : TooLow x = record { top = t; spacing = u; level = rw (t, u) at (sym (no_table x.n x.top x.spacing) ∙ e) } in
       rw (t, u) (refl, (x, q, low)))
       (λ u. rw (t, u) (refl, tt)))
       (λ t. rw t (refl, tt))

@@ -1,12 +1,13 @@
 -- What the tests of bytes say: all zero, and the same bytes. Assumes nothing.
 use mathlib.Core.Bool.{true, false, ◌&&◌, false≢true}
 use mathlib.Core.List.{List, [], ◌∷◌, head-eq_of_cons-eq, tail-eq_of_cons-eq}
-use mathlib.Core.Path.{◌≡◌, refl, ap₂}
+use mathlib.Core.Path.{◌≡◌, refl, ap, ap₂}
 use Prim.Native.Nat.{ℕ, suc, ◌+◌, ◌-◌, ◌≤◌, ◌<◌}
 use native.Mathlib.Numerals.{add-one}
 use native.Mathlib.Omega.{arith}
 use lib.Dec.{eqb}
 use lib.ListN.{length, drop}
+use lib.Pointwise.{pointwise}
 use lib.Seq.{drop-cons}
 use Rattle.weak_orders.specs.Window.{all}
 use Rattle.weak_orders.specs.Says.{Says}
@@ -44,3 +45,11 @@ says_same_bytes (x ∷ u) [] = never (λ e. let z : ◌≡◌ {A = ℕ} 0 1 = cc
 says_same_bytes (x ∷ u) (y ∷ v) = says_as (says_and (says_eq x y) (says_same_bytes u v))
     (λ h. ap₂ ◌∷◌ h.0 h.1)
     (λ e. (head-eq_of_cons-eq e, tail-eq_of_cons-eq e))
+
+-- `==` of two slices of bytes is that test
+pub pointwise_same_bytes : (u v : List ℕ) → pointwise eqb u v ≡ same_bytes u v
+unfolding same_bytes
+pointwise_same_bytes [] [] = refl
+pointwise_same_bytes [] (y ∷ v) = refl
+pointwise_same_bytes (x ∷ u) [] = refl
+pointwise_same_bytes (x ∷ u) (y ∷ v) = ap (λ t. eqb x y && t) (pointwise_same_bytes u v)

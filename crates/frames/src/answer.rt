@@ -30,7 +30,7 @@ fn with_done(answer: [u8; 40], done: u64) -> [u8; 40]
 {
     let mut a = answer;
     let d = field::bytes_of(done);
-    bytes::copy(&d, &mut a[8..16]);
+    a[8..16].copy_from_slice(&d);
     a
 }
 

@@ -58,7 +58,7 @@ pub(crate) fn with_header(frame: [u8; 40], header: &[u8]) -> [u8; 40]
     ensures { result ≡ header.now ++ drop 4 frame }
 {
     let mut f = frame;
-    bytes::copy(header, &mut f);
+    f[..4].copy_from_slice(header);
     f
 }
 
@@ -67,6 +67,6 @@ pub(crate) fn with_window(frame: [u8; 40], w: [u8; 16]) -> [u8; 40]
     ensures { result ≡ take 24 frame ++ w }
 {
     let mut f = frame;
-    bytes::copy(&w, &mut f[24..]);
+    f[24..].copy_from_slice(&w);
     f
 }

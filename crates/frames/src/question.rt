@@ -12,7 +12,7 @@ fn starts(frame: &[u8], header: &[u8]) -> bool
     requires { 4 ≤ length frame.now }
     ensures { result ≡ same_bytes (part frame.now 0 4) header.now }
 {
-    check::same(&frame[..4], header)
+    &frame[..4] == header
 }
 
 // Bytes 0–3 are WKO1 or WKO2.
@@ -132,7 +132,7 @@ pub fn window_in(f: [u8; 40]) -> [u8; 16]
     ensures { result ≡ window_in f }
 {
     let mut w = [0u8; 16];
-    bytes::copy(&f[24..40], &mut w);
+    w.copy_from_slice(&f[24..40]);
     w
 }
 

@@ -8,7 +8,7 @@ use native.Mathlib.Omega.{arith}
 use lib.Dec.{eqb}
 use lib.IntN.{ℤ}
 use lib.ListN.{length, take, drop}
-use lib.Seq.{length-take-le, take-length}
+use lib.Seq.{length-take-le}
 use borrow.Author.Tests.{le-ltb, eq-eqb, ne_eqb}
 use Rattle.weak_orders.specs.Window.{different, height, bound, padded}
 use Rattle.weak_orders.proofs.Bits.{different-ones}
@@ -113,11 +113,10 @@ answer_parts s l t =
     )
 
 -- An answer copied over a buffer that has room for it.
-pub written_over : (s : Session) (f buffer : List ℕ) (x : Exchanged) (bytes l : List ℕ) → 40 ≤ length buffer → x ≡ handle s f →
-    bytes ≡ answer_to (is_second f) x → length bytes ≡ 40 → l ≡ take (length bytes) bytes ++ drop (length bytes) buffer → (x, l) ≡ exchange s f buffer
+pub written_over : (s : Session) (f buffer : List ℕ) (x : Exchanged) (bytes : List ℕ) → 40 ≤ length buffer → x ≡ handle s f →
+    bytes ≡ answer_to (is_second f) x → (x, bytes ++ drop 40 buffer) ≡ exchange s f buffer
 unfolding exchange
-written_over s f buffer x bytes l room h b long e =
-    rw (le-ltb (length buffer) 40 room, ← h, e, take-length bytes, long, b)
+written_over s f buffer x bytes room h b = rw (le-ltb (length buffer) 40 room, ← h, b)
 
 -- A level file, by what its reader answers.
 module _ (s : Session) (f : List ℕ) where

@@ -17,7 +17,7 @@ fn load(frame: &[u8]) -> [u8; 40]
     ensures { result ≡ frame.now }
 {
     let mut f = [0u8; 40];
-    bytes::copy(frame, &mut f);
+    f.copy_from_slice(frame);
     f
 }
 

@@ -22,7 +22,7 @@ pub fn exchange(session: Session, frame: &[u8], answer: &mut [u8]) -> Exchanged
     let second = question::is_second(frame);
     let x = frame::handle(session, frame);
     let bytes = frame::answer_to(x, second);
-    bytes::copy(&bytes, answer);
+    answer[..40].copy_from_slice(&bytes);
     x
 }
 

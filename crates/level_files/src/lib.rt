@@ -48,7 +48,7 @@ fn level_line(s: &[u8], d: u32) -> SignedDecimal
     }
 }
 
-fn no_lines_lem() -> Lines
+fn no_lines() -> Lines
     ensures { result ≡ no_lines }
 {
     Lines {
@@ -67,10 +67,10 @@ fn level_lines(s: &[u8]) -> Lines
     let mut d = 0;
     while d < 16 {
         let SignedDecimal::Number { value, len } = level_line(&s[at..], d as u32) else {
-            return no_lines_lem();
+            return no_lines();
         };
         if !levels::table::level_allowed(value) {
-            return no_lines_lem();
+            return no_lines();
         }
         table[d] = value as i16;
         at += len;
@@ -83,7 +83,7 @@ fn level_lines(s: &[u8]) -> Lines
     }
 }
 
-fn no_table_lem() -> TableRead
+fn no_table() -> TableRead
     ensures { result ≡ table_read none }
 {
     TableRead {
@@ -97,15 +97,15 @@ pub fn read_table(file: &[u8]) -> TableRead
     ensures { result ≡ table_read (read_table file.now) }
 {
     if 512 < file.len() {
-        return no_table_lem();
+        return no_table();
     }
     if !decimals::begins_with(file, b"d level\n") {
-        return no_table_lem();
+        return no_table();
     }
     let lines = level_lines(&file[8..]);
     let table = lines.table;
     if !(lines.found & (lines.len + 8 == file.len()) & levels::table::falls(table)) {
-        return no_table_lem();
+        return no_table();
     }
     TableRead {
         found: true,

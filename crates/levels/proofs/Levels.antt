@@ -112,9 +112,9 @@ ordered n s few ok = by_test (on_table s)
     (λ t. same-levels (λ d. rw t) (even_ordered (passed n s (rw t at ok))))
 
 -- Without a table test 9 is that of even spacing: a spacing of 0 fails it.
-pub no_table_lem : (n : ℕ) (top : ℤ) (spacing : ℕ) → setting_ok n (setting_of top spacing) ≡ even_ok n (setting_of top spacing)
+pub no_table : (n : ℕ) (top : ℤ) (spacing : ℕ) → setting_ok n (setting_of top spacing) ≡ even_ok n (setting_of top spacing)
 unfolding setting_ok on_table table_ok even_ok
-no_table_lem n top spacing = by_test (on_table (setting_of top spacing))
+no_table n top spacing = by_test (on_table (setting_of top spacing))
     (λ t.
     let (_, none) = (says_and (says_eq (nat_abs top) 0) (says_eq spacing 0)).to t in
     rw t (rw none (by_test (top_ok top) (λ e. rw e) (λ e. rw e))))

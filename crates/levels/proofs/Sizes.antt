@@ -1,6 +1,6 @@
 -- How large a level can be, of any setting and any symbol, and that what passes test 9 has room in a setting. Assumes nothing.
 use mathlib.Core.Bool.{Bool, true, false, cond}
-use mathlib.Core.List.{List, [], ◌∷◌, map, map-id}
+use mathlib.Core.List.{List, [], ◌∷◌}
 use mathlib.Core.Path.{◌≡◌, sym, ap, subst, ◌∙◌}
 use Prim.Native.Nat.{ℕ, zero, suc, ◌+◌, ◌*◌, ◌≤◌, ◌<◌, ◌^◌}
 use native.Mathlib.Nat.{mul-le-mul}
@@ -13,6 +13,7 @@ use mir.Facts.{to_z-of_z}
 use mir.Syntax.{w16}
 use mir.Val.{Val, Fits, SFits, to_z, of_z}
 use denote.Array.{each}
+use denote.Builtin.{Array, i16}
 use denote.Shadow.{shadow}
 use denote.Signed.{SInt}
 use borrow.Author.Tests.{leb-true}
@@ -104,12 +105,11 @@ zero_bits z f = same_test (says_eq (of_z w16 z) 0) (says_as (says_eq (nat_abs z)
     (λ e. ap nat_abs (sym (to_z-of_z f) ∙ ap (to_z w16) e)))
 
 -- An element of an array of i16 fits, at any index, since past the end `get_or` gives 0: for `search`, which has it of unsigned elements only.
--- For the field of a struct the array's relation stands at `map` of the identity.
 each_fits : (t : List ℤ) (us : List Val) (i : ℕ) → shadow (each ℤ (SInt w16).own_val t us) → SFits w16 (get_or t i (pos 0))
 each_fits [] us i p = record { sfits = omega arith }
 each_fits (z ∷ t) [] i p = absurd p
 each_fits (z ∷ t) (u ∷ us) zero p = record { sfits = p.0.1 }
 each_fits (z ∷ t) (u ∷ us) (suc i) p = each_fits t us i p.1
 
-pub entry_fits : (t : List ℤ) (us : List Val) (i : ℕ) → shadow (each ℤ (SInt w16).own_val (map (λ (v : ℤ). v) t) us) → SFits w16 (get_or t i (pos 0))
-entry_fits t us i p = each_fits t us i (subst (λ (ys : List ℤ). shadow (each ℤ (SInt w16).own_val ys us)) (map-id t) p)
+pub entry_fits : (t : List ℤ) (vs : List Val) (i : ℕ) → shadow ((Array i16 tt 16).own_val t vs) → SFits w16 (get_or t i (pos 0))
+entry_fits t vs i p = each_fits t p.0 i p.1.1

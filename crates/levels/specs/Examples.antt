@@ -38,8 +38,8 @@ pub record Examples : Type 0 where
   pub table-heights : map (level_of 2 on_stairs) (0 ∷ 1 ∷ 15 ∷ 16 ∷ []) ≡ pos 2000 ∷ pos 1500 ∷ negsuc 5499 ∷ pos 0 ∷ []
   pub table-ranks : map (level_of 1 on_stairs) (1 ∷ 2 ∷ 16 ∷ 17 ∷ []) ≡ pos 2000 ∷ pos 1500 ∷ negsuc 5499 ∷ pos 0 ∷ []
   -- a table that is accepted; and refused where there is none, or the top is 25
-  pub on_table_lem : setting_ok 16 on_stairs ≡ true
-  pub no_table_lem : setting_ok 1 (setting_of (pos 0) 0) ≡ false
+  pub on_table : setting_ok 16 on_stairs ≡ true
+  pub no_table : setting_ok 1 (setting_of (pos 0) 0) ≡ false
   pub other_top : setting_ok 1 (record { top = pos 25; spacing = 0; table = stairs }) ≡ false
   -- tables that count as none: equal neighbours, 2025, 1505, -12025, one entry less, one more
   pub none : map table_ok

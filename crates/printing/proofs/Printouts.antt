@@ -90,7 +90,7 @@ page_reaches {r} {last} {k} {p} (suc left) room at = by_test (ltb room 128)
     let q = onward p in
     let line = at_line (at_onward at) in
     let t = page_of left (room - length (last_line q)) q in
-    let next = page_reaches left (room - length (last_line q)) (at_onward at) in
+    let next = page_reaches {k = suc k} left (room - length (last_line q)) (at_onward at) in
     rw e (record {
       to = next.to;
       at = next.at;
@@ -116,7 +116,7 @@ pages_join {r} {last} {k} {p} (room ∷ rooms) h at =
     let left : p.last - p.done ≡ last - k = omega (arith, at.done, at.end) in
     let (q, t) = page_of (p.last - p.done) room p in
     let one = page_reaches (p.last - p.done) room at in
-    let more = pages_join rooms (omega (arith, one.most)) one.at in
+    let more = pages_join {k = one.to} rooms (omega (arith, one.most)) one.at in
     rw ((says_steppable p.rule p.n p.window).of at.steps) (record {
       to = more.to;
       at = more.at;
@@ -163,9 +163,9 @@ unfolding pages page_in below
 idle p e [] = refl
 idle p e (room ∷ rooms) = rw (e, idle p e rooms)
 
-no_lines_lem : (c : Cause) (rooms : List ℕ) → pages rooms (started (refusal c)) ≡ (started (refusal c), [])
+no_lines : (c : Cause) (rooms : List ℕ) → pages rooms (started (refusal c)) ≡ (started (refusal c), [])
 unfolding steppable started is_rule
-no_lines_lem c rooms = idle (started (refusal c)) refl rooms
+no_lines c rooms = idle (started (refusal c)) refl rooms
 
 nothing : (c : Cause) → (started (refusal c)).done ≡ (started (refusal c)).last
 unfolding started line_count steps_of
@@ -191,7 +191,7 @@ at_start x (pos, few) known (size, form) =
 all_printed : (j : Judged) → Outcome j → (rooms : List ℕ) → (pages rooms (started j)).0.done ≡ (pages rooms (started j)).0.last →
     (pages rooms (started j)).1 ≡ round_lines j.round (steps_of j.verdict j.round.n)
 unfolding round_lines steps_of round_of
-all_printed j (turned_down c e) rooms d = rw (e, no_lines_lem c rooms)
+all_printed j (turned_down c e) rooms d = rw (e, no_lines c rooms)
 all_printed j (taken x e n r s l) rooms d =
     let all = pages_join rooms (omega arith) (at_start x n r s) in
     let last : all.to ≡ a x.n = sym all.at.done ∙ (rw e at d) ∙ all.at.end in
@@ -200,7 +200,7 @@ all_printed j (taken x e n r s l) rooms d =
 all_done : (j : Judged) → Outcome j → (rooms : List ℕ) → ((room : ℕ) → room ∈ rooms → 128 ≤ room) →
     steps_of j.verdict j.round.n ≤ length rooms → (pages rooms (started j)).0.done ≡ (pages rooms (started j)).0.last
 unfolding steps_of round_of
-all_done j (turned_down c e) rooms h m = rw (e, no_lines_lem c rooms) (nothing c)
+all_done j (turned_down c e) rooms h m = rw (e, no_lines c rooms) (nothing c)
 all_done j (taken x e n r s l) rooms h m =
     let all = pages_join rooms (omega arith) (at_start x n r s) in
     let many : a x.n ≤ length rooms = rw e at m in

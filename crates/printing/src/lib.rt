@@ -5,7 +5,7 @@
 
 mod writer;
 
-ghost use Rattle.std.specs.Prelude.{true, ◌≡◌, ◌+◌, ◌≤◌, ◌<◌, length, take};
+ghost use Rattle.std.specs.Prelude.{true, ◌++◌, ◌≡◌, ◌+◌, ◌≤◌, ◌<◌, length, take, drop};
 ghost use Rattle.weak_orders.specs.Window.{is_length};
 ghost use Rattle.successors.specs.NextSymbol.{steppable};
 ghost use Rattle.printing.specs.Writing.{Wrote, Counts};
@@ -85,6 +85,17 @@ pub fn started(judged: Judged) -> Printing
     }
 }
 
+// A text at the front of a slice, and its length.
+fn put_front(text: &[u8], out: &mut [u8]) -> usize
+    requires { length text.now ≤ length out.old }
+    ensures at { result ≡ length text.now }
+    ensures written { out.new ≡ text.now ++ drop (length text.now) out.old }
+{
+    let end = text.len();
+    out[..end].copy_from_slice(text);
+    end
+}
+
 // The heading of a round, or the refusal. A slice of under 128 bytes stays as it is.
 pub fn put_opening(verdict: Verdict, out: &mut [u8]) -> usize
     ensures out_after { (result, out.new) ≡ opening verdict out.old }
@@ -94,10 +105,10 @@ pub fn put_opening(verdict: Verdict, out: &mut [u8]) -> usize
         return 0;
     }
     match verdict {
-        Verdict::Accepted => bytes::copy(b"step symbol level window\n", out),
+        Verdict::Accepted => put_front(b"step symbol level window\n", out),
         Verdict::Refused(cause) => {
             let number = refusals::number(cause);
-            let at = bytes::copy(b"refused\n", out);
+            let at = put_front(b"refused\n", out);
             writer::put_decimal_field(out, at, number as u64, 10)
         }
     }

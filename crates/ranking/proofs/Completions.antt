@@ -12,7 +12,7 @@ use lib.Dec.{eqb}
 use lib.ListN.{length}
 use lib.Seq.{append_snoc}
 use borrow.Author.Tests.{eqb-true, eq-eqb, ne_eqb}
-use Rattle.weak_orders.specs.Window.{all, count, range, occurs, different, height, is_height, bound}
+use Rattle.weak_orders.specs.Window.{count, range, occurs, different, height, is_height, bound}
 use Rattle.weak_orders.proofs.HeightForm.{height_form, form_height}
 use Rattle.weak_orders.proofs.Lists.{count_nil, count_cons, count_cong, count_map, count_none, in_range, of_range}
 use Rattle.weak_orders.proofs.Symbols.{bound_append, bound_back, different-below, different≤bound, different≤length, different_old}

@@ -15,7 +15,7 @@ use Rattle.weak_orders.proofs.Tests.{◌∈◌, by_test}
 use Rattle.ranking.specs.Dictionary.{select}
 
 module _ {A : Type 0} (p : A → Bool) where
-  pub in_select : {xs : List A} {x : A} → x ∈ xs → p x ≡ true → x ∈ select p xs
+  pub in_select : {x : A} {xs : List A} → x ∈ xs → p x ≡ true → x ∈ select p xs
   unfolding select
   in_select (here {x = y} e) t = let t : p y ≡ true = cc in rw t (here e)
   in_select (there {x = y} m) t = by_test (p y) (λ e. rw e (there (in_select m t))) (λ e. rw e (in_select m t))
@@ -49,7 +49,7 @@ unfolding flat_map
 flat_map_append f [] ys = refl
 flat_map_append f (x ∷ xs) ys = rw (flat_map_append f xs ys, append_assoc)
 
-pub in_flat_map : {A B : Type 0} (f : A → List B) {xs : List A} {x : A} {y : B} → x ∈ xs → y ∈ f x → y ∈ flat_map f xs
+pub in_flat_map : {A B : Type 0} (f : A → List B) {x : A} {xs : List A} {y : B} → x ∈ xs → y ∈ f x → y ∈ flat_map f xs
 unfolding flat_map
 in_flat_map f (here {xs = xs} e) m = Memᴰ.append_left (flat_map f xs) (rw e at m)
 in_flat_map f (there {x = x} i) m = Memᴰ.append_right (f x) (in_flat_map f i m)

@@ -6,7 +6,7 @@ use Prim.Native.Nat.{ℕ, zero, suc, ◌+◌, ◌-◌, ◌≤◌, ◌<◌}
 use native.Mathlib.Omega.{arith}
 use lib.ListN.{length, get_or, take, drop, length-append}
 use lib.Seq.{append_snoc, take-suc, drop-cons, drop-length}
-use Rattle.weak_orders.specs.Window.{all, count, is_height, heights, ranks, bound}
+use Rattle.weak_orders.specs.Window.{count, is_height, heights, ranks, bound}
 use Rattle.weak_orders.proofs.Conversions.{ranks-is_rank, heights-is_height, length-ranks, length-heights, ranks-heights, heights-ranks}
 use Rattle.weak_orders.proofs.HeightForm.{height_bound}
 use Rattle.weak_orders.proofs.Lists.{count_cong, count_none}

@@ -12,7 +12,7 @@ use lib.ListN.{length, get_or}
 use Rattle.weak_orders.specs.Window.{count}
 use Rattle.weak_orders.proofs.Lists.{get_or_in, in_get_or, count_cons, count_none}
 use Rattle.weak_orders.proofs.Tests.{◌∈◌, by_test, bit}
-use Rattle.ranking.specs.Dictionary.{select, place}
+use Rattle.ranking.specs.Dictionary.{select}
 use Rattle.ranking.specs.Numbering.{Numbering}
 use Rattle.ranking.proofs.Listing.{of_select}
 

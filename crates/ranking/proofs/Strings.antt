@@ -7,7 +7,6 @@ use Rattle.weak_orders.specs.Window.{range, is_height}
 use Rattle.weak_orders.proofs.Lists.{of_range}
 use Rattle.rotations.specs.Order.{lex_lt}
 use Rattle.rotations.proofs.Orders.{lex_lt_less, lex_lt_equal}
-use Rattle.ranking.specs.Counts.{a}
 use Rattle.ranking.specs.Dictionary.{strings, height_windows}
 use Rattle.ranking.proofs.Listing.{of_flat_map, flat_map-range}
 use Rattle.ranking.proofs.Sorted.{Sorted, none, one, sorted_append, sorted_select, sorted_map}

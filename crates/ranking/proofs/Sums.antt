@@ -15,9 +15,8 @@ use borrow.Author.Tests.{eq-eqb, ne_eqb}
 use Rattle.weak_orders.specs.Window.{count, range}
 use Rattle.weak_orders.proofs.Lists.{count_nil, count_cons, count_append, count-range}
 use Rattle.weak_orders.proofs.Tests.{◌∈◌, by_test, bit, bit≤1}
-use Rattle.ranking.specs.Counts.{sum, a}
+use Rattle.ranking.specs.Counts.{sum}
 use Rattle.ranking.proofs.Listing.{flat_map-range}
-use Rattle.ranking.proofs.Sorted.{one}
 
 pub sum_zero : (f : ℕ → ℕ) → sum f 0 ≡ 0
 unfolding sum

@@ -1,5 +1,5 @@
 -- What the count and the two searches answer for every argument (document 01, "Place" and "Turned down").
-use Rattle.std.specs.Prelude.{Bool, cond, not, List, ℕ, ltb}
+use Rattle.std.specs.Prelude.{cond, not, List, ℕ, ltb}
 use Rattle.refusals.specs.declared.Cause.TheVariants.{WindowLength, NoSuchPlace}
 use Rattle.refusals.specs.declared.Verdict.{Verdict}
 use Rattle.refusals.specs.declared.Verdict.TheVariants.{Accepted as Passed, Refused as Failed}

@@ -1,5 +1,5 @@
 -- A whole round from the lowest window counts every weak order that a step does not rotate. Assumes nothing.
-use mathlib.Core.Bool.{true, false, cond, not, ◌&&◌}
+use mathlib.Core.Bool.{Bool, true, false, cond, not, ◌&&◌}
 use mathlib.Core.List.{List, ◌∷◌}
 use mathlib.Core.Path.{◌≡◌, refl, ap, ◌∙◌}
 use Prim.Native.Nat.{ℕ, zero, suc, ◌-◌, ◌≤◌}
@@ -7,8 +7,8 @@ use native.Mathlib.Omega.{arith}
 use lib.Dec.{eqb, leb}
 use lib.ListN.{length, take, replicate, length-replicate}
 use borrow.Author.Tests.{le-leb}
+use Rattle.weak_orders.specs.Window.{is_rank, is_height}
 use Rattle.weak_orders.proofs.FormTests.{says_length}
-use Rattle.weak_orders.proofs.Tests.{by_test}
 use Rattle.ranking.specs.Counts.{a}
 use Rattle.successors.specs.Rules.{in_form, is_rule}
 use Rattle.successors.proofs.Steppable.{Steppable}
@@ -30,10 +30,15 @@ take-replicate zero m s le = refl
 take-replicate (suc n) zero s le = absurd (omega arith)
 take-replicate (suc n) (suc m) s le = ap (λ l. s ∷ l) (take-replicate n m s (omega arith))
 
+-- in either form, by the outcome of the test
+lowest_by : (b : Bool) (m : ℕ) → let w : List ℕ = replicate (suc m) (cond b 1 0) in cond b (is_rank w) (is_height w) ≡ true
+lowest_by true m = (joined1 m).root_in.1
+lowest_by false m = (joined2 m).root_in.1
+
 lowest_form : (r n : ℕ) → 1 ≤ n → in_form r (replicate n (cond (eqb r 1) 1 0)) ≡ true
 unfolding in_form
 lowest_form r zero pos = absurd (omega arith)
-lowest_form r (suc m) pos = by_test (eqb r 1) (λ e. rw e (joined1 m).root_in.1) (λ e. rw e (joined2 m).root_in.1)
+lowest_form r (suc m) pos = lowest_by (eqb r 1) m
 
 module _ (r n : ℕ) (t : is_rule r ≡ true) (pos : 1 ≤ n) (few : n ≤ 16) where
   window : take n (lowest r) ≡ replicate n (cond (eqb r 1) 1 0)

@@ -24,20 +24,20 @@ is_start x b test s says (i, e, S) =
       first = λ j lt t. omega (arith, S.first j lt ((says (rotation (x ∷ b) j)).to t));
     }
 
-start_least : (w : List ℕ) → 1 ≤ length w → IsStart (is_least w) w (start w)
-start_least [] pos = absurd (omega arith)
-start_least (x ∷ b) pos = is_start x b _ _ (says_least x b) (start_first x b)
+least_start : (w : List ℕ) → 1 ≤ length w → IsStart (is_least w) w (start w)
+least_start [] pos = absurd (omega arith)
+least_start (x ∷ b) pos = is_start x b _ _ (says_least x b) (start_first x b)
 
-start_greatest_lem : (w : List ℕ) → 1 ≤ length w → IsStart (is_greatest w) w (start_greatest w)
-start_greatest_lem [] pos = absurd (omega arith)
-start_greatest_lem (x ∷ b) pos = is_start x b _ _ (says_greatest x b) (greatest_first x b)
+greatest_start : (w : List ℕ) → 1 ≤ length w → IsStart (is_greatest w) w (start_greatest w)
+greatest_start [] pos = absurd (omega arith)
+greatest_start (x ∷ b) pos = is_start x b _ _ (says_greatest x b) (greatest_first x b)
 
 pub rotations : Rotations
 rotations = record {
   rank_rotation = rank_rotation;
   height-rotation = height-rotation;
-  start_least = start_least;
-  start_greatest_lem = start_greatest_lem;
+  least_start = least_start;
+  greatest_start = greatest_start;
 }
 
 pub periods : Periods

@@ -15,8 +15,8 @@ pub record IsStart (test : List ℕ → Bool) (w : List ℕ) (s : ℕ) : Type 0 
 pub record Rotations : Type 0 where
   pub rank_rotation : (w : List ℕ) (i : ℕ) → is_rank w ≡ true → is_rank (rotation w i) ≡ true
   pub height-rotation : (w : List ℕ) (i : ℕ) → is_height w ≡ true → is_height (rotation w i) ≡ true
-  pub start_least : (w : List ℕ) → 1 ≤ length w → IsStart (is_least w) w (start w)
-  pub start_greatest_lem : (w : List ℕ) → 1 ≤ length w → IsStart (is_greatest w) w (start_greatest w)
+  pub least_start : (w : List ℕ) → 1 ≤ length w → IsStart (is_least w) w (start w)
+  pub greatest_start : (w : List ℕ) → 1 ≤ length w → IsStart (is_greatest w) w (start_greatest w)
 
 -- document 02's ring length of a window w
 pub record PeriodOf (w : List ℕ) : Type 0 where

@@ -5,7 +5,7 @@ use Prim.Native.Nat.{ℕ}
 use lib.IntN.{ℤ}
 use Rattle.weak_orders.proofs.Tests.{by_test}
 use Rattle.levels.specs.Level.{setting_of, top_ok, spacing_ok, even_ok, setting_ok}
-use Rattle.levels.proofs.Levels.{no_table_lem}
+use Rattle.levels.proofs.Levels.{no_table}
 use Rattle.sheets.specs.declared.judge.SettingTest.{SettingTest}
 use Rattle.sheets.specs.Judgement.{setting_test, no_setting}
 
@@ -28,11 +28,11 @@ module _ (n : ℕ) (top : ℤ) (spacing : ℕ) where
 
   pub top_out : top_ok top ≡ false → setting_test n top spacing ≡ no_setting
   unfolding even_ok
-  top_out e = not_ok (no_table_lem n top spacing ∙ false_left (top_ok top) _ e)
+  top_out e = not_ok (no_table n top spacing ∙ false_left (top_ok top) _ e)
 
   pub spacing_out : spacing_ok spacing ≡ false → setting_test n top spacing ≡ no_setting
   unfolding even_ok
-  spacing_out e = not_ok (no_table_lem n top spacing ∙ false_right (top_ok top) _ (false_left (spacing_ok spacing) _ e))
+  spacing_out e = not_ok (no_table n top spacing ∙ false_right (top_ok top) _ (false_left (spacing_ok spacing) _ e))
 
   -- what the answer tells
   module _ (t : SettingTest) (e : t ≡ setting_test n top spacing) where

@@ -18,10 +18,10 @@ use Rattle.sheets.proofs.SheetTexts.{reads_fields}
 
 -- ---- from an answer to what was found
 
-pub no_lines_lem : (l : Lines) (f : Found RawSheet) → l ≡ lines_of f → l.found ≡ false → f ≡ missing
+pub no_lines : (l : Lines) (f : Found RawSheet) → l ≡ lines_of f → l.found ≡ false → f ≡ missing
 unfolding lines_of
-no_lines_lem l (found x k) e t = absurd (false≢true (sym (rw e at t)))
-no_lines_lem l missing e t = refl
+no_lines l (found x k) e t = absurd (false≢true (sym (rw e at t)))
+no_lines l missing e t = refl
 
 pub found_lines : (l : Lines) (f : Found RawSheet) → l ≡ lines_of f → l.found ≡ true →
     (x : RawSheet) × (f ≡ found x l.len) × (l.sheet ≡ sheet_held x)
@@ -76,7 +76,7 @@ module _ (s : List ℕ) where
   module _ (l : Lines) (h : length s ≤ 128) (e : l ≡ lines_of (sheet_lines s)) where
     pub parse-missing : l.found ≡ false → parse s ≡ none
     unfolding parse wholly
-    parse-missing t = rw (le-leb (length s) 128 h, no_lines_lem l (sheet_lines s) e t)
+    parse-missing t = rw (le-leb (length s) 128 h, no_lines l (sheet_lines s) e t)
 
     pub parse-part : l.found ≡ true → ¬ (l.len ≡ length s) → parse s ≡ none
     unfolding parse wholly

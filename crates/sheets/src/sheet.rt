@@ -60,7 +60,7 @@ fn no_sheet() -> Sheet
     }
 }
 
-fn no_lines_lem() -> Lines
+fn no_lines() -> Lines
     ensures { result ≡ lines_of missing }
 {
     let sheet = no_sheet();
@@ -118,7 +118,7 @@ fn fields(s: &[u8]) -> Lines
     ensures { result ≡ lines_of (further 0 sheet_of (fields s.now)) }
 {
     let LengthAndRule::Read { n, rule, len: a } = length_and_rule(s) else {
-        return no_lines_lem();
+        return no_lines();
     };
     let TopAndSpacing::Read {
         top,
@@ -126,12 +126,12 @@ fn fields(s: &[u8]) -> Lines
         len: b,
     } = top_and_spacing(&s[a..])
     else {
-        return no_lines_lem();
+        return no_lines();
     };
     let end = a + b;
     let start = decimals::numbers_field(&s[end..], 10);
     if !start.found {
-        return no_lines_lem();
+        return no_lines();
     }
     let items = start.values;
     let sheet = Sheet {
@@ -161,7 +161,7 @@ pub fn sheet_lines(text: &[u8]) -> Lines
     ensures { result ≡ lines_of (sheet_lines text.now) }
 {
     if !has_title(text) {
-        return no_lines_lem();
+        return no_lines();
     }
     let second = fields(&text[25..]);
     if !second.found {

@@ -325,7 +325,10 @@ module _ (g : List ℕ) (t : List ℤ) (G : Good g t) (small : is_bytes g ≡ tr
   unfolding next
   head_session h c le x = ⊎_elim
       (λ kind. one_session g t G h c le x kind)
-      (λ b. rw (counted_begin g c x G.kind b.same, b.unstepped) (again_session g t G small b.second h x b.same))
+      (λ b.
+      subst (λ k. (one (session_at g t h k) x).0.session ≡ session_at g t h k) (sym b.unstepped)
+      (again_session g t G small b.second h x b.same)
+      ∙ ap (session_at g t h) (sym (counted_begin g c x G.kind b.same)))
 
   after-take : (l : List Event) (h : List ℤ) (c : ℕ) → FramesFrom g c l → c ≤ round_of g → (i : ℕ) →
       after (session_at g t h c) (take i l) ≡ session_at g t (held_after h (take i l)) (count_from g c (arrivals (take i l)))

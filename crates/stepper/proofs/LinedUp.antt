@@ -1,9 +1,9 @@
 -- Two benches under one rule, by the tour of the first. Assumes nothing.
-use mathlib.Core.List.{List, [], ◌∷◌, map}
+use mathlib.Core.List.{List, ◌∷◌, map}
 use mathlib.Core.Path.{◌≡◌, refl, sym, ap, ap₂, ◌∙◌}
 use Prim.Native.Nat.{ℕ, zero, suc, ◌+◌}
 use native.Mathlib.Omega.{arith}
-use Rattle.weak_orders.specs.Window.{range, iter}
+use Rattle.weak_orders.specs.Window.{range}
 use Rattle.weak_orders.proofs.Lists.{map_cong, map_range}
 use Rattle.ranking.specs.Counts.{a}
 use Rattle.successors.specs.Rules.{rule_of, WeakOrder, step}
@@ -13,7 +13,7 @@ use Rattle.frames.specs.Question.{length_in, rule_in}
 use Rattle.stepper.specs.Exchange.{fresh, exchange}
 use Rattle.stepper.specs.ExactlyOnce.{round_of, start_of, window_after, numbers_after, copy_after}
 use Rattle.stepper.specs.Example.{beginning, odd, lent}
-use Rattle.stepper.specs.LinedUp.{windows_of, LinedUp, RoundsLineUp, beginning_at21, LinedUpInstance}
+use Rattle.stepper.specs.LinedUp.{windows_of, RoundsLineUp, beginning_at21, LinedUpInstance}
 use Rattle.stepper.proofs.ExactlyOnce.{left}
 use Rattle.stepper.proofs.Standing.{start_order, listing}
 

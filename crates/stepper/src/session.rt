@@ -172,7 +172,7 @@ impl Session {
             return false;
         }
         let begun_by = question::begin_bytes(true, n as u8, self.rule, self.round, setting, window);
-        (done == 0) & check::same(&f, &begun_by)
+        (done == 0) & (f == begun_by)
     }
 
     // A begin frame with the round number of the WKO2 round in force.

@@ -4,7 +4,6 @@ use mathlib.Core.Path.{◌≡◌, refl, sym, ap, subst, ◌∙◌}
 use Rattle.weak_orders.specs.Window.{iter}
 use Rattle.weak_orders.proofs.Iterates.{by, along}
 use Rattle.universal_cycle.specs.Round.{Tour}
-use Rattle.universal_cycle.proofs.Joined.{first}
 
 module _ {A : Type 0} {P : A → Type 0} {f g : A → A} (f-in : (w : A) → P w → P (f w)) (agree : (w : A) → P w → f w ≡ g w) where
   pub same-iter : (k : ℕ) (s : A) → P s → iter g k s ≡ iter f k s

@@ -2,4 +2,3 @@
 // list (specs/TwoStarts.antt).
 // Rests on weak_orders, ranking and successors. Holds no code: the claim is in specs/, its proof in proofs/.
 #![tactic(auto)]
-

@@ -149,7 +149,7 @@ fn store(w: [u8; 16], n: usize, out: &mut [u8])
     requires { (n ≤ 16) × (n ≤ length out.old) }
     ensures { out.new ≡ take n w ++ drop n out.old }
 {
-    bytes::copy(&w[..n], out);
+    out[..n].copy_from_slice(&w[..n]);
 }
 
 // A window for an answer: told, and written out where it is accepted and there is room.
@@ -219,7 +219,7 @@ fn give_number(x: NumberAnswer, out: &mut [u8]) -> u32
     let verdict = with_room(8, out.len(), told);
     match verdict {
         Verdict::Accepted => {
-            bytes::copy(&b, out);
+            out[..8].copy_from_slice(&b);
             0
         }
         Verdict::Refused(cause) => refused(cause),

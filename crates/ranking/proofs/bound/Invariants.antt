@@ -1,14 +1,8 @@
 -- `ranking::bound` meets its contract. The loop's invariant: b is the bound of the symbols passed. Assumes nothing.
-use mathlib.Core.Path.{◌≡◌, refl, ap, ◌∙◌}
+use mathlib.Core.Path.{◌≡◌}
 use Prim.Native.Nat.{◌≤◌, ◌-◌}
-use native.Mathlib.Omega.{arith}
-use mir.Syntax.{w8}
-use mir.Val.{Fits}
-use lib.ListN.{length, take, get_or}
-use Rattle.weak_orders.proofs.Parts.{part_more}
+use lib.ListN.{take}
 use Rattle.weak_orders.specs.Window.{bound as boundOf}
-use Rattle.weak_orders.proofs.Symbols.{bound_back}
-use borrow.Author.Rules.{rules}
 use Rattle.ranking.proofs.bound.Given as goal
 
 abbrev pub invariant-loop-j : goal.invariant-loop-j

@@ -1,8 +1,6 @@
 -- `count`: refused, or the list's entry. Assumes nothing.
 use mathlib.Core.Bool.{true}
 use mathlib.Core.Path.{◌≡◌, sym, ap, ◌∙◌}
-use borrow.Author.Rules.{rules}
-use borrow.Author.Tests.{not-true, not-false}
 use Rattle.weak_orders.specs.Window.{is_length}
 use Rattle.ranking.specs.Answers.{counted}
 use Rattle.ranking.specs.declared.NumberAnswer.TheVariants.{Number}
@@ -12,7 +10,7 @@ use Rattle.ranking.proofs.count.Goals as goal
 pub returns-then-not-is_length : goal.returns-then-not-is_length
 unfolding counted
 returns-then-not-is_length c = let l = c.is_length in
-    rw (sym l.ensures ∙ not-true l.result c.if-not-is_length.true-raw)
+    rw (sym l.ensures ∙ c.if-not-is_length.true)
 
 pub returns : goal.returns
 unfolding counted

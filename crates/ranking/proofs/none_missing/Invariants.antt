@@ -1,11 +1,7 @@
 -- `ranking::none_missing` meets its contract. The loop's invariant: the total is the ways to fill the places passed. Assumes nothing.
-use mathlib.Core.Path.{◌≡◌, refl, ap, ◌∙◌}
-use Prim.Native.Nat.{◌+◌, ◌≤◌, ◌-◌, ◌*◌}
-use native.Mathlib.Omega.{arith}
+use mathlib.Core.Path.{◌≡◌}
+use Prim.Native.Nat.{◌≤◌, ◌-◌}
 use Rattle.ranking.specs.Counts.{ways}
-use Rattle.ranking.proofs.CountLaws.{ways-none-missing}
-use Rattle.ranking.proofs.Size.{ways_small}
-use borrow.Author.Rules.{rules}
 use Rattle.ranking.proofs.none_missing.Given as goal
 
 abbrev pub invariant-loop-places : goal.invariant-loop-places

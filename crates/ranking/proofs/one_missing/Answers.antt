@@ -4,7 +4,6 @@ use Prim.Native.Nat.{◌+◌}
 use native.Mathlib.Omega.{arith}
 use Rattle.ranking.specs.Counts.{ways}
 use Rattle.ranking.proofs.CountLaws.{ways_one_more}
-use borrow.Author.Rules.{rules}
 use Rattle.ranking.proofs.one_missing.Goals.{After-none_missing-2}
 use Rattle.ranking.proofs.one_missing.Goals as goal
 

@@ -2,13 +2,12 @@
 use mathlib.Core.Path.{◌≡◌, sym, ap, ◌∙◌}
 use lib.ListN.{length, take}
 use borrow.Author.Rules.{rules}
-use Rattle.refusals.specs.declared.Verdict.TheVariants.{Accepted}
 use Rattle.weak_orders.specs.Converted.{is_height_window, judged_in}
 use Rattle.weak_orders.specs.Window.{is_height}
 use Rattle.weak_orders.proofs.Judged.{judged_array, accepted_by}
 use Rattle.ranking.specs.Answers.{placed, number_by}
 use Rattle.ranking.specs.declared.NumberAnswer.TheVariants.{Number}
-use Rattle.ranking.proofs.place.Goals.{After-judge-verdict, In-Accepted}
+use Rattle.ranking.proofs.place.Goals.{After-judge-verdict}
 use Rattle.ranking.proofs.place.Goals as goal
 
 -- the verdict on the window
@@ -19,16 +18,13 @@ told c =
     let l : length a.w ≡ 16 = search rules in
     c.judge-verdict.ensures ∙ rw c.is_height.ensures (judged_array is_height a.n a.w l)
 
-passed : (c : In-Accepted) → let a = c.args in judged_in is_height a.n (take a.n a.w) ≡ Accepted
-passed c = sym (told c.before.before) ∙ c.in-Accepted.is
-
 pub place_of-requires : goal.place_of-requires
 place_of-requires c = let r = c in
     sym r.is_height.ensures ∙ (accepted_by _ _ (sym r.judge-verdict.ensures ∙ c.in-Accepted.is)).1
 
 pub returns-in-Accepted : goal.returns-in-Accepted
 unfolding placed number_by
-returns-in-Accepted c = rw (passed (goal.at.returns-in-Accepted c).In-Accepted) (ap Number c.place_of.ensures)
+returns-in-Accepted c = rw (sym (told (goal.at.returns-in-Accepted c).After-judge-verdict) ∙ c.in-Accepted.is) (ap Number c.place_of.ensures)
 
 pub returns-in-Refused : goal.returns-in-Refused
 unfolding placed number_by

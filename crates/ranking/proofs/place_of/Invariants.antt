@@ -1,14 +1,9 @@
 -- `ranking::place_of` meets its contract. The loop's invariant: the sum of what the symbols passed add to the place. Assumes nothing.
-use mathlib.Core.Path.{◌≡◌, refl, ap, ◌∙◌}
-use Prim.Native.Nat.{◌+◌, ◌-◌, ◌≤◌}
-use native.Mathlib.Omega.{arith}
-use lib.ListN.{length, take, get_or}
-use Rattle.weak_orders.proofs.FormTests.{of_height_window}
+use mathlib.Core.Path.{◌≡◌}
+use Prim.Native.Nat.{◌-◌, ◌≤◌}
+use lib.ListN.{take}
 use Rattle.ranking.specs.Counts.{sum}
-use Rattle.ranking.proofs.Loops.{prefix_low, symbol_low, placed_at, placed_fits, placed-all}
 use Rattle.ranking.proofs.Places.{place_at}
-use Rattle.ranking.proofs.Sums.{sum_more}
-use borrow.Author.Rules.{rules}
 use Rattle.ranking.proofs.place_of.Given as goal
 
 abbrev pub invariant-loop-i : goal.invariant-loop-i

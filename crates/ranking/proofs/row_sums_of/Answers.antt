@@ -1,7 +1,7 @@
 use mathlib.Core.Path.{◌≡◌, refl, sym}
-use Prim.Native.Nat.{ℕ, ◌+◌, ◌-◌, ◌*◌, ◌≤◌, ◌<◌}
+use Prim.Native.Nat.{◌+◌, ◌-◌, ◌*◌}
 use native.Mathlib.Omega.{arith}
-use lib.ListN.{length, get_or}
+use lib.ListN.{get_or}
 use Rattle.ranking.specs.Counts.{ways_from}
 use Rattle.ranking.proofs.CountLaws.{L-ways, ways_from-none, ways_from_less}
 use Rattle.ranking.proofs.Size.{ways_from_small}

@@ -1,14 +1,9 @@
 -- `ranking::row_sums_of` meets its contract: the table's test, carried to each entry of the row. The loop's invariant: the total is the sum
 -- from m on, and each entry from m on is such a total. Assumes nothing.
-use mathlib.Core.Path.{◌≡◌, refl, sym}
-use Prim.Native.Nat.{ℕ, ◌+◌, ◌-◌, ◌*◌, ◌≤◌, ◌<◌}
-use native.Mathlib.Omega.{arith}
+use mathlib.Core.Path.{◌≡◌}
+use Prim.Native.Nat.{ℕ, ◌≤◌, ◌<◌}
 use lib.ListN.{length, get_or}
 use Rattle.ranking.specs.Counts.{ways_from}
-use Rattle.ranking.proofs.CountLaws.{L-ways, ways_from-none, ways_from_less}
-use Rattle.ranking.proofs.Size.{ways_from_small}
-use Rattle.ranking.proofs.Tabled.{entries_set, entry-L}
-use borrow.Author.Rules.{rules}
 use Rattle.ranking.proofs.row_sums_of.Given as goal
 
 abbrev pub invariant-loop-m : goal.invariant-loop-m

@@ -1,11 +1,8 @@
 -- `ranking::symbol_at` meets its contract. The loop's invariant: the counts passed and the rest add up to the place. Assumes nothing.
 use mathlib.Core.Path.{◌≡◌}
-use Prim.Native.Nat.{ℕ, ◌+◌, ◌-◌, ◌<◌}
-use native.Mathlib.Omega.{arith}
+use Prim.Native.Nat.{◌+◌, ◌-◌, ◌<◌}
 use lib.ListN.{get_or}
 use Rattle.ranking.specs.Counts.{sum}
-use Rattle.ranking.proofs.Sums.{sum_zero, sum_more, sum-before}
-use borrow.Author.Rules.{rules}
 use Rattle.ranking.proofs.symbol_at.Given as goal
 
 abbrev pub invariant-loop-v : goal.invariant-loop-v

@@ -1,7 +1,7 @@
 use mathlib.Core.Path.{◌≡◌, refl, sym, ap, ◌∙◌}
-use Prim.Native.Nat.{ℕ, ◌+◌, ◌-◌, ◌≤◌, ◌<◌}
+use Prim.Native.Nat.{ℕ, ◌+◌, ◌-◌, ◌<◌}
 use native.Mathlib.Omega.{arith}
-use lib.ListN.{length, get_or, get_or-replicate}
+use lib.ListN.{get_or-replicate}
 use Rattle.ranking.specs.Counts.{ways_from}
 use Rattle.ranking.proofs.CountLaws.{ways_from-none, ways_from_less}
 use Rattle.ranking.proofs.Size.{ways_from_small}
@@ -43,9 +43,9 @@ loop-m-preserved c = let a = c.args in
     let l = c.loop-m in
     let f : ℕ → ℕ = λ i. ways_from a.rest i a.present in (
       search rules,
-      next c,
+      next (goal.at.loop-m-preserved c).After-ways-total,
       search rules,
-      λ i lo hi. entries_set l.totals f (l.m - 1) _ (omega arith) (next c) i (λ ne. l.invariant.3 i (omega arith) hi),
+      λ i lo hi. entries_set l.totals f (l.m - 1) _ (omega arith) (next (goal.at.loop-m-preserved c).After-ways-total) i (λ ne. l.invariant.3 i (omega arith) hi),
     )
 
 pub returns : goal.returns

@@ -1,14 +1,9 @@
 -- `ranking::ways_from` meets its contract. The loop's invariant: the total is the ways with m or more, each entry from m on is such a
 -- total, and those above rest are 0, as they have to be. Assumes nothing.
-use mathlib.Core.Path.{◌≡◌, refl, sym, ap, ◌∙◌}
-use Prim.Native.Nat.{ℕ, ◌+◌, ◌-◌, ◌≤◌, ◌<◌}
-use native.Mathlib.Omega.{arith}
-use lib.ListN.{length, get_or, get_or-replicate}
+use mathlib.Core.Path.{◌≡◌}
+use Prim.Native.Nat.{ℕ, ◌+◌, ◌≤◌, ◌<◌}
+use lib.ListN.{length, get_or}
 use Rattle.ranking.specs.Counts.{ways_from}
-use Rattle.ranking.proofs.CountLaws.{ways_from-none, ways_from_less}
-use Rattle.ranking.proofs.Size.{ways_from_small}
-use Rattle.ranking.proofs.Tabled.{entries_set}
-use borrow.Author.Rules.{rules}
 use Rattle.ranking.proofs.ways_from.Given as goal
 
 abbrev pub invariant-loop-m : goal.invariant-loop-m

@@ -1,13 +1,11 @@
 -- `window_at`: each test's failure, or the window at a place below a(n). Assumes nothing.
 use mathlib.Core.Bool.{true}
 use mathlib.Core.Path.{◌≡◌, sym, ◌∙◌}
-use borrow.Author.Tests.{not-true, not-false}
 use Rattle.weak_orders.specs.Converted.{answered}
 use Rattle.weak_orders.specs.Window.{is_length}
 use Rattle.weak_orders.proofs.FormTests.{says_length}
 use Rattle.ranking.specs.Answers.{located}
 use Rattle.ranking.proofs.Answered.{place-length, place_past, place-below, place_within}
-use borrow.Author.Rules.{rules}
 use Rattle.ranking.proofs.window_at.Goals.{Else-not-is_length}
 use Rattle.ranking.proofs.window_at.Goals as goal
 
@@ -18,7 +16,7 @@ pub returns-then-not-is_length : goal.returns-then-not-is_length
 unfolding located answered
 returns-then-not-is_length c = let a = c.args in
     let l = c.is_length in
-    rw (place-length a.n a.place (sym l.ensures ∙ not-true l.result c.if-not-is_length.true-raw)) c.refused.ensures
+    rw (place-length a.n a.place (sym l.ensures ∙ c.if-not-is_length.true)) c.refused.ensures
 
 pub returns-then-weak_order_count-place : goal.returns-then-weak_order_count-place
 unfolding located answered

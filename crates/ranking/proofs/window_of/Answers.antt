@@ -1,13 +1,9 @@
-use mathlib.Core.Path.{◌≡◌}
-use Prim.Native.Nat.{◌-◌, ◌≤◌}
 use native.Mathlib.Omega.{arith}
-use lib.ListN.{take}
-use Rattle.weak_orders.specs.Window.{padded}
 use Rattle.weak_orders.proofs.Padded.{padded_nil, padded-all}
 use Rattle.ranking.specs.Dictionary.{window_at}
 use Rattle.ranking.proofs.Loops.{found_low, found_within, found_next}
 use Rattle.ranking.proofs.Places.{heights-numbered}
-use Rattle.ranking.proofs.WindowAt.{Reached, reached_start}
+use Rattle.ranking.proofs.WindowAt.{reached_start}
 use borrow.Author.Rules.{rules}
 use Rattle.ranking.proofs.window_of.Goals as goal
 
@@ -25,7 +21,7 @@ symbol_at-next-requires c = let a = c.args in
     let l = c.loop-i in (
       search rules,
       found_within a.n a.place p.0 p.1 _ l.i (search rules) l.invariant.1 l.left (search rules) l.invariant.2
-          c.continuations.new.1.1.1.0 c.continuations.ensures,
+          c.continuations.new.counts c.continuations.ensures,
     )
 
 pub loop-i-preserved : goal.loop-i-preserved
@@ -34,7 +30,7 @@ loop-i-preserved c = let a = c.args in
     let l = c.loop-i in
     let (x, m) = c.symbol_at-next.ensures in
     let (e, R) = found_next a.n a.place p.0 p.1 _ l.i (search rules) l.invariant.1 l.left (search rules) l.invariant.2
-    c.continuations.new.1.1.1.0 c.continuations.ensures _ _ x m in
+    c.continuations.new.counts c.continuations.ensures _ _ x m in
     (search rules, e, R)
 
 pub returns : goal.returns

@@ -2,15 +2,10 @@
 -- among the windows that begin so. Assumes nothing.
 use mathlib.Core.Path.{◌≡◌}
 use Prim.Native.Nat.{◌-◌, ◌≤◌}
-use native.Mathlib.Omega.{arith}
 use lib.ListN.{take}
 use Rattle.weak_orders.specs.Window.{padded}
-use Rattle.weak_orders.proofs.Padded.{padded_nil, padded-all}
 use Rattle.ranking.specs.Dictionary.{window_at}
-use Rattle.ranking.proofs.Loops.{found_low, found_within, found_next}
-use Rattle.ranking.proofs.Places.{heights-numbered}
-use Rattle.ranking.proofs.WindowAt.{Reached, reached_start}
-use borrow.Author.Rules.{rules}
+use Rattle.ranking.proofs.WindowAt.{Reached}
 use Rattle.ranking.proofs.window_of.Given as goal
 
 abbrev pub invariant-loop-i : goal.invariant-loop-i

@@ -1,0 +1,17 @@
+-- `put_others`: the symbols so far are written, each behind a comma. Assumes nothing.
+use borrow.Author.Rules.{rules}
+use native.Mathlib.Omega.{arith}
+use mathlib.Core.Path.{◌≡◌}
+use Prim.Native.Nat.{◌+◌, ◌-◌, ◌≤◌}
+use lib.ListN.{length, take, drop}
+use Rattle.decimals.specs.Text.{commaed}
+use Rattle.printing.specs.Writing.{Wrote}
+use Rattle.printing.proofs.Written.{wrote_none, wrote_then, wrote_length}
+use Rattle.printing.proofs.WrittenLists.{no_others, others_le, commaed-next, others_room}
+use Rattle.printing.proofs.writer.put_others.Given as goal
+
+abbrev pub invariant-loop-i : goal.invariant-loop-i
+invariant-loop-i l = (1 ≤ l.i) × (l.i ≤ l.n) × Wrote l.initial.out l.at (commaed (drop 1 (take l.i l.w))) l.next l.out
+
+abbrev pub decreases-loop-i : goal.decreases-loop-i
+decreases-loop-i l = l.n - l.i

@@ -1,0 +1,6 @@
+-- `no_setting` meets its contract. Assumes nothing.
+use borrow.Author.Rules.{rules}
+use Rattle.sheets.proofs.judge.no_setting.Goals as goal
+
+pub returns : goal.returns
+returns c = rw c.setting_of.ensures

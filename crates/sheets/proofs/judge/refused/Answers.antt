@@ -1,0 +1,6 @@
+-- `refused`: the cause, and no round. Assumes nothing.
+use borrow.Author.Rules.{rules}
+use Rattle.sheets.proofs.judge.refused.Goals as goal
+
+pub returns : goal.returns
+returns c = rw c.no_round-round.ensures

@@ -1,0 +1,6 @@
+-- `answer`: the two cases. Assumes nothing.
+use borrow.Author.Rules.{rules}
+use Rattle.wko.proofs.answer.Goals as goal
+
+pub returns-in-Refused : goal.returns-in-Refused
+returns-in-Refused c = rw (c.in-Refused.is, c.refused.ensures)

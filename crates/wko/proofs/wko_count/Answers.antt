@@ -1,0 +1,11 @@
+-- `wko_count`: the count, given. Assumes nothing.
+use mathlib.Core.Path.{ap, ◌∙◌}
+use Rattle.wko.specs.Calls.{number_given, count_call}
+use borrow.Author.Rules.{rules}
+use Rattle.wko.proofs.wko_count.Goals as goal
+
+pub returns : goal.returns
+unfolding count_call
+returns c = let g = c in
+    let r = g in
+    g.give_number.ensures ∙ ap (λ x. number_given x r.args.out.now) r.count.ensures
