@@ -41,7 +41,8 @@ fn version_in(f: [u8; 40]) -> u8
     1
 }
 
-// The session that a begin frame asks for.
+// The session that a begin frame asks for. Out of line, so that a frame needs less stack: no call takes more than 1500 bytes.
+#[inline(never)]
 fn round_in(f: [u8; 40], held: [i16; 16]) -> Session
     ensures { result ≡ round_in f held }
 {
@@ -122,6 +123,7 @@ fn query_frame(session: Session, f: [u8; 40]) -> Exchanged
 }
 
 // Tests 2 to 4, then by kind.
+#[inline(always)]
 pub(crate) fn handle(session: Session, frame: &[u8]) -> Exchanged
     ensures { result ≡ handle session frame.now }
 {

@@ -48,7 +48,9 @@ fn unused_zero(w: [u8; 16], n: usize) -> bool
     frames::field::all_zero(&w[n..])
 }
 
-// The reply to a begin frame for the round that the session holds: tests 6 to 9. `formed` says whether its window is in the rule's form.
+// The reply to a begin frame for the round that the session holds: tests 6 to 9. `formed` says whether its window is in the rule's form. Inlined,
+// since each call would copy the session to the stack.
+#[inline(always)]
 fn reply_if(s: Session, formed: bool) -> Reply
     ensures { result ≡ reply_if s formed }
 {
@@ -122,6 +124,7 @@ impl Session {
     }
 
     // Document 01's "counts as begun", where `formed` says whether the window is in the rule's form.
+    #[inline(always)]
     fn begun_if(self, formed: bool) -> bool
         ensures { result ≡ begun_if self formed }
     {
