@@ -6,7 +6,7 @@ use Prim.Native.Nat.{ℕ, suc, ◌+◌, ◌-◌, ◌≤◌, ◌<◌}
 use native.Mathlib.Numerals.{add-one}
 use native.Mathlib.Omega.{arith}
 use lib.Dec.{eqb}
-use lib.ListN.{length, drop}
+use lib.ListN.{length, drop, drop_of_length-le}
 use lib.Pointwise.{pointwise}
 use lib.Seq.{drop-cons}
 use Rattle.weak_orders.specs.Window.{all}
@@ -53,3 +53,13 @@ pointwise_same_bytes [] [] = refl
 pointwise_same_bytes [] (y ∷ v) = refl
 pointwise_same_bytes (x ∷ u) [] = refl
 pointwise_same_bytes (x ∷ u) (y ∷ v) = ap (λ t. eqb x y && t) (pointwise_same_bytes u v)
+
+-- the bytes from i on are the same just if the first two are, and those behind them
+pub same_from : (u v : List ℕ) (i : ℕ) → i < length u → i < length v →
+    same_bytes (drop i u) (drop i v) ≡ (eqb (byte u i) (byte v i) && same_bytes (drop (i + 1) u) (drop (i + 1) v))
+unfolding same_bytes
+same_from u v i h k = rw (drop-cons u i 0 h, drop-cons v i 0 k, add-one i)
+
+pub same_past : (u v : List ℕ) (i : ℕ) → length u ≤ i → length v ≤ i → same_bytes (drop i u) (drop i v) ≡ true
+unfolding same_bytes
+same_past u v i h k = rw (drop_of_length-le u h, drop_of_length-le v k)

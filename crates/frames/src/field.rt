@@ -1,6 +1,6 @@
 // Numbers as bytes, little-endian, and two's complement; and what questions and answers have at the same place.
 ghost use Rattle.std.specs.Prelude.{◌++◌, ◌≡◌, length, take, drop};
-ghost use Rattle.frames.specs.Fields.{zeros, signed16, bits32, bytes64};
+ghost use Rattle.frames.specs.Fields.{zeros, same_bytes, signed16, bits32, bytes64};
 
 // The signed number that an unsigned one is in two's complement.
 pub fn signed_of(x: u16) -> i16
@@ -45,6 +45,24 @@ pub fn all_zero(s: &[u8]) -> bool
     let mut i = 0;
     while i < s.len() {
         if s[i] != 0 {
+            return false;
+        }
+        i += 1;
+    }
+    true
+}
+
+// The two slices hold the same bytes. std's `==` reads groups of bytes through buffers of its own, which a frame's few bytes do not pay for: in
+// `wko_exchange` they took 400 bytes of stack.
+pub fn same(a: &[u8], b: &[u8]) -> bool
+    ensures { result ≡ same_bytes a.now b.now }
+{
+    if a.len() != b.len() {
+        return false;
+    }
+    let mut i = 0;
+    while i < a.len() {
+        if a[i] != b[i] {
             return false;
         }
         i += 1;

@@ -12,7 +12,7 @@ fn starts(frame: &[u8], header: &[u8]) -> bool
     requires { 4 ≤ length frame.now }
     ensures { result ≡ same_bytes (part frame.now 0 4) header.now }
 {
-    &frame[..4] == header
+    field::same(&frame[..4], header)
 }
 
 // Bytes 0–3 are WKO1 or WKO2.

@@ -1,46 +1,53 @@
-// Standard input, read so that a read that fails is told from the input's end. io::read_full answers a short count for both.
+// Input, read so that a read that fails is told from the input's end, and so that its bytes up to the failure are kept. std's `read_exact` says
+// nothing of what was read where the input ends before the slice is full.
 #![tactic(auto)]
 
-ghost use Rattle.io.specs.Counts.{IsPrefixLen};
+ghost use Rattle.std.specs.Prelude.{◌≡◌, ◌<◌, length, take, IsNone};
+ghost use Rattle.std.specs.Io.KnownBytes.{Consumes, IsAtEnd};
+ghost use Rattle.std.specs.Counts.{IsPrefixLen};
 ghost use Rattle.input.specs.Filled.{Filled};
 
-use libc::STDIN_FILENO;
+use std::io;
+use std::io::Read;
 
-// How many bytes came, and whether a read failed behind them; then errno says why.
-#[derive(Drop)]
+// How many bytes came, and why a read behind them failed, if one did.
+#[derive(Clone, Copy, Debug)]
 pub struct Got {
     pub len: usize,
-    pub failed: bool,
+    pub failed: Option<io::Error>,
 }
 
 // One read. No bytes where it failed, and none where the input ended.
-fn read_once(out: &mut [u8]) -> Got
-    ensures { IsPrefixLen result.len out.new }
+fn read_once<R: Read>(input: &mut R, out: &mut [u8]) -> Got
+    ensures counts { IsPrefixLen result.len out.new }
+    ensures bytes { Consumes (R.remaining input.old) (R.remaining input.new) (take result.len out.new) }
+    ensures end { IsNone result.failed → result.len ≡ 0 → 0 < length out.old → IsAtEnd (R.remaining input.new) }
 {
-    let got = libc::read(STDIN_FILENO, out);
-    Got {
-        len: io::count(got, out),
-        failed: got < 0,
+    match input.read(out) {
+        Ok(len) => Got { len, failed: None },
+        Err(error) => Got {
+            len: 0,
+            failed: Some(error),
+        },
     }
 }
 
 // Reads until the slice is full, the input ends or a read fails.
-pub fn fill(out: &mut [u8]) -> Got
-    ensures { Filled result out.new }
+pub fn fill<R: Read>(input: &mut R, out: &mut [u8]) -> Got
+    ensures filled { Filled result out.new }
+    ensures bytes { Consumes (R.remaining input.old) (R.remaining input.new) (take result.len out.new) }
+    ensures end { IsNone result.failed → result.len < length out.new → IsAtEnd (R.remaining input.new) }
 {
     let mut len = 0;
     while len < out.len() {
-        let got = read_once(&mut out[len..]);
+        let got = read_once(input, &mut out[len..]);
         if got.len == 0 {
             return Got {
-                len: len,
+                len,
                 failed: got.failed,
             };
         }
         len += got.len;
     }
-    Got {
-        len: len,
-        failed: false,
-    }
+    Got { len, failed: None }
 }

@@ -1,5 +1,5 @@
 -- What is printed (document 01, "The printed round"): a line for each step of the round, or the refusal.
-use Rattle.std.specs.Prelude.{cond, List, [], ◌∷◌, ◌++◌, ℕ, zero, suc, ◌+◌, ◌-◌, leb, ltb, ℤ, length, take, drop}
+use Rattle.std.specs.Prelude.{cond, List, [], ◌++◌, ℕ, zero, suc, ◌+◌, ◌-◌, leb, ltb, ℤ, length, take, drop}
 use Rattle.weak_orders.specs.Window.{iter, padded}
 use Rattle.ranking.specs.Counts.{a}
 use Rattle.successors.specs.NextSymbol.{steppable}

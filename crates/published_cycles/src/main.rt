@@ -2,7 +2,7 @@
 // oldest symbol of each window until the start window comes again. stdout holds 002's own strings.
 #![tactic(auto)]
 
-use libc::STDOUT_FILENO;
+use std::io;
 use successors::Next;
 
 fn digit(symbol: u8) -> u8 {
@@ -17,34 +17,31 @@ fn next_window(rule: u8, w: [u8; 16], n: usize) -> [u8; 16] {
     }
 }
 
-fn print_byte(b: u8) {
-    let one = [b; 1];
-    io::write_all(STDOUT_FILENO, &one);
+fn print_byte(rt: &impl Print, b: u8) -> io::Result<()> {
+    rt.write_all(&[b])
 }
 
 // One line. No cycle here is longer than 75 symbols.
-fn print_cycle(rule: u8, start: [u8; 16], n: usize) {
+fn print_cycle(rt: &impl Print, rule: u8, start: [u8; 16], n: usize) -> io::Result<()> {
     let mut w = start;
-    let mut left: usize = 75;
-    while 0 < left {
-        print_byte(digit(w[0]));
+    for _ in 0..75 {
+        print_byte(rt, digit(w[0]))?;
         w = next_window(rule, w, n);
-        if check::same(&w, &start) {
-            print_byte(b'\n');
-            return;
+        if w == start {
+            return print_byte(rt, b'\n');
         }
-        left -= 1;
     }
+    Ok(())
 }
 
-fn print_cycles(rule: u8, symbol: u8) {
+fn print_cycles(rt: &impl Print, rule: u8, symbol: u8) -> io::Result<()> {
     let same = [symbol; 16];
-    print_cycle(rule, weak_orders::load(&same[..3], 3), 3);
-    print_cycle(rule, weak_orders::load(&same[..4], 4), 4);
+    print_cycle(rt, rule, weak_orders::load(&same[..3], 3), 3)?;
+    print_cycle(rt, rule, weak_orders::load(&same[..4], 4), 4)
 }
 
-fn main() {
-    print_cycles(1, 1);
-    print_cycles(2, 0);
-    print_cycles(3, 0);
+fn main(rt: HostRuntime) -> io::Result<()> {
+    print_cycles(&rt, 1, 1)?;
+    print_cycles(&rt, 2, 0)?;
+    print_cycles(&rt, 3, 0)
 }

@@ -1,10 +1,5 @@
--- A record is an event, and a run of records a list of events. Assumes nothing.
-use mathlib.Core.Bool.{Bool, true, false}
-use mathlib.Core.List.{List, [], ◌∷◌, ◌++◌}
-use mathlib.Core.Path.{◌≡◌, refl, ap, ◌∙◌}
-use Prim.Native.Nat.{ℕ, ◌+◌, ◌≤◌}
-use native.Mathlib.Omega.{arith}
-use lib.ListN.{length-append}
+-- A record is an event, and a run of records a list of events.
+use Rattle.std.proofs.Common.{Bool, true, false, List, [], ◌∷◌, ◌++◌, ◌≡◌, refl, ap, ◌∙◌, ℕ, ◌+◌, ◌≤◌, arith, length-append}
 use Rattle.stepper.specs.declared.session.Session.{Session}
 use Rattle.stepper.specs.Exchange.{fresh}
 use Rattle.stepper.specs.ExactlyOnce.{Event, question, level_file, next, after}
@@ -19,7 +14,7 @@ record_comes false s t bytes buffer out e = record {
 }
 
 -- an event more, at the end of a list
-after_more : (s : Session) (l : List Event) (e : Event) → after s (l ++ (e ∷ [])) ≡ next (after s l) e
+pub after_more : (s : Session) (l : List Event) (e : Event) → after s (l ++ (e ∷ [])) ≡ next (after s l) e
 unfolding after
 after_more s [] e = refl
 after_more s (x ∷ l) e = after_more (next s x) l e

@@ -1,5 +1,5 @@
--- What a record comes to: the session after it, and the bytes written for it; and what a run of records comes to. That the bytes of a record are those
--- of standard input, and that what is handed to write arrives, no contract of the C library says.
+-- What a record comes to: the session after it, and the bytes written for it; and what a run of records comes to. That the records are those of the
+-- input, and that their answers are written, Runs says.
 use Rattle.std.specs.Prelude.{Bool, cond, List, ◌∷◌, ◌≡◌, ℕ, ◌≤◌, length}
 use Rattle.frames.specs.Answer.{reply_number}
 use Rattle.stepper.specs.declared.session.Session.{Session}

@@ -5,8 +5,14 @@
 // million records if more follow, and then standard error says so.
 #![tactic(auto)]
 
-use records::Kind;
+use records::{Kind, Streams};
 
-fn main() {
-    records::run(b"replay", Kind::Frames);
+fn main(rt: HostRuntime) {
+    let mut streams = Streams {
+        name: b"replay",
+        input: rt.stdin(),
+        output: rt.stdout(),
+        errors: rt.stderr(),
+    };
+    streams.run(Kind::Frames);
 }

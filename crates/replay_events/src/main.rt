@@ -4,8 +4,14 @@
 // ends at a record that starts with neither F nor L, and standard error says so.
 #![tactic(auto)]
 
-use records::Kind;
+use records::{Kind, Streams};
 
-fn main() {
-    records::run(b"replay_events", Kind::Events);
+fn main(rt: HostRuntime) {
+    let mut streams = Streams {
+        name: b"replay_events",
+        input: rt.stdin(),
+        output: rt.stdout(),
+        errors: rt.stderr(),
+    };
+    streams.run(Kind::Events);
 }

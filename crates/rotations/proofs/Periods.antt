@@ -17,7 +17,7 @@ use Rattle.rotations.specs.Order.{same}
 use Rattle.rotations.specs.Rotation.{rotation, rotations, start, start_greatest, is_new, period}
 use Rattle.rotations.proofs.Orders.{TotalOrder, upward, downward, says_same}
 use Rattle.rotations.proofs.Returns.{least_number, remainder, Returns, divides, difference, apart}
-use Rattle.rotations.proofs.Rotations.{turn, ◌⟳◌, ⟳-sym, length_rotated, turned_rotation, mem_rotations, iter_turn, full_turn}
+use Rattle.rotations.proofs.Rotations.{turn, ⟳-sym, length_rotated, turned_rotation, mem_rotations, iter_turn, full_turn}
 use Rattle.rotations.proofs.Rotations.{StartBy, start_first, greatest_first}
 
 says_new : (w : List ℕ) (i : ℕ) → Says (is_new w i) ((j : ℕ) → j < i → ¬ (rotation w j ≡ rotation w i))

@@ -5,65 +5,63 @@
 
 ghost use Rattle.std.specs.Prelude.{◌≤◌, length};
 
-use libc::{STDIN_FILENO, STDOUT_FILENO};
 use printing::Printing;
 use refusals::Verdict;
 use sheets::judge;
+use std::io;
 
-fn print_opening(verdict: Verdict) {
+fn print_opening(rt: &impl Print, verdict: Verdict) -> io::Result<()> {
     let mut page = [0u8; 384];
     let len = printing::put_opening(verdict, &mut page);
-    io::write_all(STDOUT_FILENO, &page[..len]);
+    rt.write_all(&page[..len])
 }
 
-fn print_page(p: Printing) {
+fn print_page(rt: &impl Print, p: Printing) -> io::Result<()> {
     let mut page = [0u8; 384];
-    let filled = printing::next_page(p, &mut page);
-    let len = filled.len;
-    io::write_all(STDOUT_FILENO, &page[..len]);
+    let len = printing::next_page(p, &mut page).len;
+    rt.write_all(&page[..len])
 }
 
-fn try_sheet(name: &[u8], text: &[u8]) {
-    io::write_all(STDOUT_FILENO, b"-- ");
-    io::write_all(STDOUT_FILENO, name);
-    io::write_all(STDOUT_FILENO, b"\n");
+fn try_sheet(rt: &impl Print, name: &[u8], text: &[u8]) -> io::Result<()> {
+    rt.write_all(b"-- ")?;
+    rt.write_all(name)?;
+    rt.write_all(b"\n")?;
     let judged = judge::read_sheet(text);
-    let verdict = judged.verdict;
-    print_opening(verdict);
-    print_page(printing::started(judged));
+    print_opening(rt, judged.verdict)?;
+    print_page(rt, printing::started(judged))
 }
 
 // The index of the next `#`, or the end.
 fn mark_from(s: &[u8], at: usize) -> usize
     requires { at ≤ length s.now }
-    ensures { (at ≤ result) × (result ≤ length s.now) }
+    ensures low { at ≤ result }
+    ensures high { result ≤ length s.now }
 {
-    let mut i = at;
-    while i < s.len() {
-        if s[i] == 35 {
+    for i in at..s.len() {
+        if s[i] == b'#' {
             return i;
         }
-        i += 1;
     }
-    i
+    s.len()
 }
 
-fn try_all(s: &[u8]) {
+fn try_all(rt: &impl Print, s: &[u8]) -> io::Result<()> {
     let mut at = 0;
     while at < s.len() {
         let name_end = mark_from(s, at);
         if name_end == s.len() {
-            return;
+            return Ok(());
         }
         let text = name_end + 1;
         let text_end = mark_from(s, text);
-        try_sheet(&s[at..name_end], &s[text..text_end]);
+        try_sheet(rt, &s[at..name_end], &s[text..text_end])?;
         at = text_end + 2;
     }
+    Ok(())
 }
 
-fn main() {
-    let mut list = io::large_buffer();
-    let got = io::read_full(STDIN_FILENO, &mut list);
-    try_all(&list[..got]);
+fn main(rt: HostRuntime) -> io::Result<()> {
+    let mut list = [0u8; 65536];
+    let len = input::fill(&mut rt.stdin(), &mut list).len;
+    try_all(&rt, &list[..len])
 }

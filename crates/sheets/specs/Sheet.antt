@@ -1,6 +1,6 @@
 -- A sheet as it is written and read (document 01, "The printed round"). Values are kept as they were read.
 use Rattle.std.specs.Prelude.{Bool, cond, ◌≡◌, ℕ, ◌≤◌, leb, eqb, ℤ, nat_abs, length}
-use mathlib.Core.List.{List, [], ◌∷◌, ◌++◌, Memᴰ}
+use mathlib.Core.List.{List, ◌++◌, Memᴰ}
 use Rattle.std.proofs.Math.Option.{Option, none, some}
 use Prim.Native.Char.{code}
 use Rattle.frames.specs.Fields.{ascii}

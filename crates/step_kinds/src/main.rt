@@ -2,38 +2,36 @@
 // Paper 7). The numbers are the library's. A write that fails ends the run, and standard error says so.
 #![tactic(auto)]
 
-use libc::STDOUT_FILENO;
+use std::io;
 
-// Whether a number and the byte behind it were written. After a gap nothing is.
-fn print_number(number: u64, end: u8) -> bool {
-    let one = [end; 1];
-    io::print_decimal(STDOUT_FILENO, number) && io::write_all(STDOUT_FILENO, &one)
-}
-
-fn print_line(rule: u8, n: usize) -> bool {
+fn print_line(rt: &impl Print, rule: u8, n: usize) -> io::Result<()> {
     let tally = rotating_steps::tally_of(rule, n);
-    print_number(n as u64, b' ')
-        && print_number(rule as u64, b' ')
-        && print_number(tally.same, b' ')
-        && print_number(tally.other, b'\n')
+    let same = tally.same;
+    let other = tally.other;
+    println!(rt; "{n} {rule} {same} {other}")
 }
 
-fn print_rule(rule: u8) -> bool {
-    if !io::write_all(STDOUT_FILENO, b"n rule same other\n") {
-        return false;
+fn print_rule(rt: &impl Print, rule: u8) -> io::Result<()> {
+    println!(rt; "n rule same other")?;
+    for n in 1..=8 {
+        print_line(rt, rule, n)?;
     }
-    let mut n = 1;
-    while n <= 8 {
-        if !print_line(rule, n) {
-            return false;
-        }
-        n += 1;
-    }
-    true
+    Ok(())
 }
 
-fn main() {
-    if !(print_rule(1) && print_rule(2) && print_rule(3)) {
-        os::fail(b"step_kinds: could not write the numbers");
+// After a gap nothing is printed.
+fn print_rules(rt: &impl Print) -> io::Result<()> {
+    print_rule(rt, 1)?;
+    print_rule(rt, 2)?;
+    print_rule(rt, 3)
+}
+
+fn main(rt: HostRuntime) {
+    if let Err(error) = print_rules(&rt) {
+        failures::say(
+            &mut rt.stderr(),
+            b"step_kinds: could not write the numbers",
+            error,
+        );
     }
 }

@@ -9,7 +9,7 @@ ghost use Rattle.stepper.specs.Exchange.{reply_if, begin_reply, in_second, begun
 ghost use Rattle.stepper.specs.Exchange.{again_if, takes_if, onward, stepped, same_version, if_begun, step_numbered, step_of, query_of};
 
 use frames::answer::Reply;
-use frames::question;
+use frames::{field, question};
 use levels::Setting;
 use refusals::Cause;
 use successors::Next;
@@ -172,7 +172,7 @@ impl Session {
             return false;
         }
         let begun_by = question::begin_bytes(true, n as u8, self.rule, self.round, setting, window);
-        (done == 0) & (f == begun_by)
+        (done == 0) & field::same(&f, &begun_by)
     }
 
     // A begin frame with the round number of the WKO2 round in force.

@@ -1,5 +1,5 @@
 -- `begins_with` meets its contract: a short text does not begin so, and `==` tests the front of a long one. Assumes nothing.
-use mathlib.Core.Path.{◌≡◌, sym, ◌∙◌}
+use mathlib.Core.Path.{sym, ◌∙◌}
 use lib.ListN.{length, take}
 use Rattle.weak_orders.proofs.Tests.{same_test}
 use Rattle.frames.proofs.ByteTests.{pointwise_same_bytes, says_same_bytes}

@@ -6,7 +6,6 @@ use mir.Facts.{to_z_pos, to_z-of_z}
 use mir.Syntax.{w32}
 use mir.Val.{SFits}
 use Rattle.decimals.proofs.Answers.{minus}
-use borrow.Author.Rules.{rules}
 use Rattle.decimals.proofs.negative.Goals as goal
 
 pub overflow_sub-result : goal.overflow_sub-result

@@ -9,7 +9,6 @@ use Rattle.decimals.specs.Held.{decimal_of}
 use Rattle.decimals.specs.Reading.{run, Digits, starts_with}
 use Rattle.decimals.proofs.Digits.{run_length, run-digits}
 use Rattle.decimals.proofs.Answers.{none-run, long_run, zero_run, good_run}
-use borrow.Author.Rules.{rules}
 use Rattle.decimals.proofs.number.Goals as goal
 
 pub returns-then-k-eq0 : goal.returns-then-k-eq0

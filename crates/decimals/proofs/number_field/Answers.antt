@@ -5,7 +5,6 @@ use borrow.Author.Tests.{not-true, not-false}
 use Rattle.decimals.specs.Held.{decimal_of}
 use Rattle.decimals.specs.Reading.{found, number}
 use Rattle.decimals.proofs.Answers.{found_number, no_number, ended-missing, ended-other, ended_here, starts_within}
-use borrow.Author.Rules.{rules}
 use Rattle.decimals.proofs.number_field.Goals.{In-Number}
 use Rattle.decimals.proofs.number_field.Goals as goal
 

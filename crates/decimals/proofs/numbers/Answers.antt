@@ -1,15 +1,13 @@
 use lib.ListN.{drop, length-drop}
-use borrow.Author.Rules.{rules}
 use native.Mathlib.Omega.{arith}
-use mathlib.Core.List.{List}
 use mathlib.Core.Path.{◌≡◌, sym, ap, ◌∙◌}
-use Prim.Native.Nat.{ℕ, ◌+◌, ◌-◌, ◌<◌}
+use Prim.Native.Nat.{◌+◌}
 use borrow.Author.Tests.{not-true, not-false}
 use Rattle.decimals.specs.Held.{decimal_of, decimals_of}
 use Rattle.decimals.specs.Reading.{found, number}
 use Rattle.decimals.proofs.Answers.{found_number, no_number, number_bounds, starts_within}
 use Rattle.decimals.proofs.Cursors.{part_from}
-use Rattle.decimals.proofs.Gathering.{Gathered, gathered_none, gathered_full, gathered_missing, gathered_last, gathered_on}
+use Rattle.decimals.proofs.Gathering.{gathered_none, gathered_full, gathered_missing, gathered_last, gathered_on}
 use Rattle.decimals.proofs.numbers.Goals.{In-Number}
 use Rattle.decimals.proofs.numbers.Goals as goal
 

@@ -3,9 +3,8 @@ use native.Mathlib.Omega.{arith}
 use mathlib.Core.Path.{sym, ap, ◌∙◌}
 use borrow.Author.Tests.{not-true, not-false}
 use Rattle.decimals.specs.Held.{decimals_of}
-use Rattle.decimals.specs.Reading.{found, numbers}
+use Rattle.decimals.specs.Reading.{numbers}
 use Rattle.decimals.proofs.Answers.{no_decimals, ended-missing, starts_within, decimals_other, decimals_here}
-use borrow.Author.Rules.{rules}
 use Rattle.decimals.proofs.numbers_field.Goals as goal
 
 pub returns-then-not-d : goal.returns-then-not-d

@@ -2,7 +2,6 @@
 use native.Mathlib.Omega.{arith}
 use mir.Facts.{to_z_pos}
 use mir.Syntax.{w32}
-use borrow.Author.Rules.{rules}
 use Rattle.decimals.proofs.positive.Goals as goal
 
 pub returns : goal.returns

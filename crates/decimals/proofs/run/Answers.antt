@@ -1,10 +1,6 @@
-use borrow.Author.Rules.{rules}
 use borrow.Author.Tests.{not-true, not-false}
 use native.Mathlib.Omega.{arith}
-use mathlib.Core.Path.{◌≡◌, sym, ◌∙◌}
-use Prim.Native.Nat.{◌+◌, ◌-◌, ◌≤◌}
-use lib.ListN.{length, drop}
-use Rattle.decimals.specs.Reading.{run}
+use mathlib.Core.Path.{sym, ◌∙◌}
 use Rattle.decimals.proofs.Cursors.{run_end, run_stop, run_on}
 use Rattle.decimals.proofs.run.Goals as goal
 

@@ -7,7 +7,6 @@ use borrow.Author.Rules.{sfits_of}
 use Rattle.decimals.specs.Held.{signed_of}
 use Rattle.decimals.specs.Reading.{found, number, positive, negative}
 use Rattle.decimals.proofs.Answers.{found_number, no_number, number_bounds, signed_minus, signed_plain, starts_within}
-use borrow.Author.Rules.{rules}
 use Rattle.decimals.proofs.signed_number.Goals.{In-Number}
 use Rattle.decimals.proofs.signed_number.Goals as goal
 

@@ -1,7 +1,6 @@
 -- `starts_with`: past the end there is no byte. Assumes nothing.
 use Rattle.decimals.proofs.Cursors.{starts_past, starts_at}
 use mathlib.Core.Path.{sym}
-use borrow.Author.Rules.{rules}
 use Rattle.decimals.proofs.starts_with.Goals as goal
 
 pub returns-then-s-at : goal.returns-then-s-at

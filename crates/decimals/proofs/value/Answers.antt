@@ -1,8 +1,5 @@
-use borrow.Author.Rules.{rules}
 use native.Mathlib.Omega.{arith}
-use mathlib.Core.Path.{◌≡◌, refl}
-use Prim.Native.Nat.{◌-◌, ◌≤◌}
-use lib.ListN.{length, take}
+use mathlib.Core.Path.{refl}
 use lib.Seq.{take_all}
 use Rattle.decimals.specs.Reading.{value}
 use Rattle.decimals.proofs.Cursors.{digit_at, value-next, value_room}

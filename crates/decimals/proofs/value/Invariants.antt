@@ -1,12 +1,8 @@
 -- `value`: the value of the digits passed, which leaves room for one more. Assumes nothing.
-use borrow.Author.Rules.{rules}
-use native.Mathlib.Omega.{arith}
-use mathlib.Core.Path.{◌≡◌, refl}
+use mathlib.Core.Path.{◌≡◌}
 use Prim.Native.Nat.{◌-◌, ◌≤◌}
 use lib.ListN.{length, take}
-use lib.Seq.{take_all}
 use Rattle.decimals.specs.Reading.{value}
-use Rattle.decimals.proofs.Cursors.{digit_at, value-next, value_room}
 use Rattle.decimals.proofs.value.Given as goal
 
 abbrev pub invariant-loop-i : goal.invariant-loop-i

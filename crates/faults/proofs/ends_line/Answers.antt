@@ -1,6 +1,5 @@
 -- `ends_line`: an empty text has no last byte. Assumes nothing.
 use mathlib.Core.Path.{refl, sym}
-use borrow.Author.Rules.{rules}
 use Rattle.faults.specs.Faults.{ends_line}
 use Rattle.faults.proofs.TextTests.{empty_ends}
 use Rattle.faults.proofs.ends_line.Goals as goal

@@ -3,7 +3,6 @@ use mathlib.Core.Bool.{true}
 use mathlib.Core.Path.{◌≡◌, refl, ◌∙◌}
 use borrow.Author.Tests.{not-true, not-false}
 use Rattle.faults.proofs.ReadTexts.{unread, accepted, refused}
-use borrow.Author.Rules.{rules}
 use Rattle.faults.proofs.fault_of.Goals.{Else-not-parsed}
 use Rattle.faults.proofs.fault_of.Goals as goal
 

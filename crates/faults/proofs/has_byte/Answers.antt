@@ -1,9 +1,8 @@
 use mathlib.Core.Bool.{◌&&◌, ◌||◌}
 use mathlib.Core.Path.{◌≡◌, refl, sym, ◌∙◌}
-use Prim.Native.Nat.{◌+◌, ◌-◌}
+use Prim.Native.Nat.{◌+◌}
 use lib.Dec.{leb}
-use lib.ListN.{length, drop}
-use borrow.Author.Rules.{rules}
+use lib.ListN.{drop}
 use Rattle.frames.specs.Fields.{byte}
 use Rattle.faults.specs.Faults.{has_byte}
 use Rattle.faults.proofs.TextTests.{byte_on, byte_end}

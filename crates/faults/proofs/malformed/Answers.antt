@@ -1,12 +1,9 @@
 -- `malformed`: the tests are those of the definition, in its order. Assumes nothing.
 use mathlib.Core.Bool.{true, false}
-use mathlib.Core.List.{List}
 use mathlib.Core.Path.{◌≡◌, sym, ◌∙◌}
-use Prim.Native.Nat.{ℕ}
 use lib.Dec.{ltb, eqb}
 use lib.ListN.{length}
-use borrow.Author.Rules.{rules}
-use borrow.Author.Tests.{lt-ltb, le-ltb, eq-eqb, ne_eqb, not-true, not-false}
+use borrow.Author.Tests.{lt-ltb, le-ltb, eq-eqb, ne_eqb}
 use Rattle.faults.specs.Faults.{has_byte, ends_line, malformed}
 use Rattle.faults.proofs.malformed.Goals.{Else-has_byte, Else-has_byte-2, Else-has_byte-3, Else-not-ends_line, Else-text-eq0, Else-text-gt128}
 use Rattle.faults.proofs.malformed.Goals as goal

@@ -1,5 +1,4 @@
 -- `start_fault`: the count first, then the rule says which form. Assumes nothing.
-use borrow.Author.Rules.{rules}
 use borrow.Author.Tests.{eq-eqb, ne_eqb}
 use Rattle.faults.proofs.start_fault.Goals as goal
 

@@ -1,6 +1,5 @@
 -- `nearest` meets its contract: the sum does not wrap, and neither does the product. Assumes nothing.
 use mathlib.Core.Path.{refl}
-use borrow.Author.Rules.{rules}
 use Rattle.levels.specs.Level.{nearest}
 use Rattle.levels.proofs.nearest.Goals as goal
 

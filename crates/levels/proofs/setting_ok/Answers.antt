@@ -6,7 +6,6 @@ use mir.Facts.{to_z-of_z, sfits_widen}
 use mir.Syntax.{w16, w32}
 use mir.Val.{SFits}
 use borrow.Author.Rules.{rules, sfits_of}
-use borrow.Author.Tests.{not-true, not-false}
 use Rattle.weak_orders.specs.Window.{is_length}
 use Rattle.weak_orders.proofs.FormTests.{says_length}
 use Rattle.levels.specs.Level.{even_ok, setting_ok}

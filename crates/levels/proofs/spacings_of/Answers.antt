@@ -1,7 +1,6 @@
 -- `spacings_of` meets its contract, by the cases of the rule and of symbol 0. Assumes nothing.
 use borrow.Author.Tests.{eq-eqb, ne_eqb}
 use Rattle.levels.specs.Level.{spacings}
-use borrow.Author.Rules.{rules}
 use Rattle.levels.proofs.spacings_of.Goals as goal
 
 pub returns-then-rule-ne1 : goal.returns-then-rule-ne1

@@ -2,7 +2,6 @@
 use lib.Dec.{leb}
 use Rattle.weak_orders.proofs.Tests.{by_test}
 use Rattle.printing.specs.Printing.{line_count, steps_of}
-use borrow.Author.Rules.{rules}
 use Rattle.printing.proofs.line_count.Goals as goal
 
 pub returns-in-Accepted : goal.returns-in-Accepted

@@ -1,6 +1,5 @@
 -- `onward`: the window stepped, and one more step done. Assumes nothing.
 use Rattle.printing.specs.Printing.{onward}
-use borrow.Author.Rules.{rules}
 use Rattle.successors.proofs.Steppable.{step_made}
 use Rattle.printing.proofs.onward.Goals as goal
 

@@ -9,7 +9,6 @@ use Rattle.printing.specs.Printing.{line_text}
 use Rattle.decimals.specs.Text.{decimal, signed, joined}
 use Rattle.printing.specs.Writing.{Wrote}
 use Rattle.printing.proofs.Written.{wrote_then, room_front, room_rest}
-use borrow.Author.Rules.{rules}
 use Rattle.printing.proofs.put_row.Goals.{After-put_decimal_field-second, After-put_decimal_field-third, After-put_signed_field-fourth, Start}
 use Rattle.printing.proofs.put_row.Goals as goal
 

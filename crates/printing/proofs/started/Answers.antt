@@ -1,6 +1,5 @@
 -- `started`: the round as it was judged, and no step done. Assumes nothing.
 use Rattle.printing.specs.Printing.{started}
-use borrow.Author.Rules.{rules}
 use Rattle.printing.proofs.started.Goals as goal
 
 pub returns : goal.returns

@@ -1,10 +1,9 @@
 use mathlib.Core.List.{List}
 use mathlib.Core.Path.{◌≡◌}
-use Prim.Native.Nat.{ℕ, ◌≤◌, ◌-◌}
+use Prim.Native.Nat.{ℕ}
 use native.Mathlib.Omega.{arith}
 use borrow.Author.Rules.{rules}
-use lib.ListN.{length, take, drop, get_or}
-use Rattle.rotations.specs.Order.{compared}
+use lib.ListN.{length, take, get_or}
 use Rattle.rotations.specs.Rotation.{rotation}
 use Rattle.rotations.proofs.Compared.{rotation-length, Front, front_less, front_greater, front_equal, compared_end}
 use Rattle.rotations.proofs.compare.Goals.{After-cyclic-b, Start}

@@ -1,14 +1,10 @@
 -- `compare` compares the two rotations. The loop's invariant: what is left of them from index k compares as they do. The measure is
 -- what is left of n. Assumes nothing.
-use mathlib.Core.List.{List}
 use mathlib.Core.Path.{◌≡◌}
-use Prim.Native.Nat.{ℕ, ◌≤◌, ◌-◌}
-use native.Mathlib.Omega.{arith}
-use borrow.Author.Rules.{rules}
-use lib.ListN.{length, take, drop, get_or}
+use Prim.Native.Nat.{◌≤◌, ◌-◌}
+use lib.ListN.{take, drop}
 use Rattle.rotations.specs.Order.{compared}
 use Rattle.rotations.specs.Rotation.{rotation}
-use Rattle.rotations.proofs.Compared.{rotation-length, Front, front_less, front_greater, front_equal, compared_end}
 use Rattle.rotations.proofs.compare.Given as goal
 
 abbrev pub invariant-loop-k : goal.invariant-loop-k

@@ -1,7 +1,7 @@
 use mathlib.Core.Bool.{true}
 use mathlib.Core.List.{List}
 use mathlib.Core.Path.{◌≡◌, sym, ap, subst, ◌∙◌}
-use Prim.Native.Nat.{ℕ, max, ◌≤◌, ◌-◌}
+use Prim.Native.Nat.{ℕ, ◌-◌}
 use native.Mathlib.Omega.{arith}
 use borrow.Author.Rules.{rules}
 use lib.ListN.{length, take}
@@ -11,8 +11,8 @@ use Rattle.rotations.specs.declared.Comparison.{Comparison}
 use Rattle.rotations.specs.declared.Comparison.TheVariants.{Before, Same, Behind}
 use Rattle.rotations.specs.declared.Standing.TheVariants.{Greatest}
 use Rattle.rotations.proofs.Compared.{Told, told}
-use Rattle.rotations.proofs.Orders.{lex_ge, downward}
-use Rattle.rotations.proofs.RotationSearch.{First, first_one, first_stays, Found, found_again, found_once, own_greatest, own_behind}
+use Rattle.rotations.proofs.Orders.{downward}
+use Rattle.rotations.proofs.RotationSearch.{first_one, first_stays, Found, found_again, found_once, own_greatest, own_behind}
 use Rattle.rotations.proofs.own_standing.Goals.{After-capped-end, After-compare-place}
 use Rattle.rotations.proofs.own_standing.Goals as goal
 

@@ -1,17 +1,15 @@
 use mathlib.Core.List.{List}
-use mathlib.Core.Logic.{⊎_elim}
 use mathlib.Core.Path.{◌≡◌, sym, subst, ◌∙◌}
-use Prim.Native.Nat.{ℕ, max, ◌+◌, ◌≤◌, ◌-◌}
+use Prim.Native.Nat.{ℕ, ◌+◌, ◌-◌}
 use native.Mathlib.Omega.{arith}
 use borrow.Author.Rules.{rules}
-use borrow.Author.Tests.{not-true, not-false}
 use lib.ListN.{length, take}
 use Rattle.weak_orders.proofs.Parts.{capped_window}
 use Rattle.rotations.specs.Rotation.{rotation}
 use Rattle.rotations.specs.declared.Comparison.{Comparison}
 use Rattle.rotations.specs.declared.Comparison.TheVariants.{Before, Same, Behind}
 use Rattle.rotations.proofs.Compared.{Told, told}
-use Rattle.rotations.proofs.RotationSearch.{First, first_one, first_stays, first_moves, le_of, order_of, Found, found_again, found_once}
+use Rattle.rotations.proofs.RotationSearch.{first_one, first_stays, first_moves, order_of, Found, found_again, found_once}
 use Rattle.rotations.proofs.search.Goals.{After-capped-end, After-compare-place}
 use Rattle.rotations.proofs.search.Goals.{in-Before+then-not-greatest, in-Before+else-not-greatest, in-Behind+then-greatest, in-Behind+else-greatest}
 use Rattle.rotations.proofs.search.Goals as goal

@@ -1,9 +1,6 @@
 -- `steps`: the window after i steps. Assumes nothing.
-use borrow.Author.Rules.{rules}
-use mathlib.Core.Path.{◌≡◌, refl, ap, ◌∙◌}
+use mathlib.Core.Path.{◌≡◌}
 use Prim.Native.Nat.{◌≤◌, ◌-◌}
-use native.Mathlib.Omega.{arith}
-use native.Mathlib.Numerals.{add-one}
 use Rattle.weak_orders.specs.Window.{iter}
 use Rattle.successors.specs.NextSymbol.{step_or_stay}
 use Rattle.walk.proofs.steps.Given as goal

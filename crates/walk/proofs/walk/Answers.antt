@@ -3,7 +3,6 @@ use mathlib.Core.Path.{◌≡◌, sym, ap, ◌∙◌}
 use Prim.Native.Nat.{◌-◌, ◌≤◌}
 use native.Mathlib.Omega.{arith}
 use lib.ListN.{get_or}
-use Rattle.refusals.specs.declared.Verdict.TheVariants.{Accepted}
 use Rattle.weak_orders.proofs.FormTests.{says_length}
 use Rattle.successors.specs.NextSymbol.{judged, symbol_by}
 use Rattle.successors.proofs.Steppable.{steppable_of, judged-loaded}

@@ -6,7 +6,6 @@ use native.Mathlib.Omega.{arith}
 use lib.Dec.{lit<}
 use lib.Pow.{shl_exact}
 use Rattle.weak_orders.specs.Tables.{bit_of}
-use borrow.Author.Rules.{rules}
 use Rattle.weak_orders.proofs.bit_of.Goals as goal
 
 pub returns-then-v-lt31 : goal.returns-then-v-lt31

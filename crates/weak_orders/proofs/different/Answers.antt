@@ -5,7 +5,6 @@ use Prim.Native.Nat.{◌%◌, ◌^◌}
 use lib.Count.{ones}
 use lib.ListN.{take}
 use Rattle.weak_orders.proofs.Bits.{ones-height}
-use borrow.Author.Rules.{rules}
 use Rattle.weak_orders.proofs.different.Goals as goal
 
 pub returns : goal.returns

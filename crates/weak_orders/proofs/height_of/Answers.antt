@@ -6,7 +6,6 @@ use native.Mathlib.Omega.{arith}
 use lib.Count.{ones-le}
 use lib.Dec.{lit<}
 use lib.Pow.{shl_exact, pow_pos}
-use borrow.Author.Rules.{rules}
 use Rattle.weak_orders.proofs.height_of.Goals as goal
 
 -- the shifted 1

@@ -2,7 +2,7 @@
 use mathlib.Core.Path.{sym, ◌∙◌}
 use Prim.Native.Nat.{◌≤◌}
 use native.Mathlib.Omega.{arith}
-use borrow.Author.Tests.{not-true, not-false}
+use borrow.Author.Tests.{not-true}
 use Rattle.weak_orders.proofs.FormTests.{says_length, no_length, height_high, height_by_bits}
 use borrow.Author.Rules.{rules}
 use Rattle.weak_orders.proofs.is_height.Goals.{Else-not-is_length}

@@ -1,7 +1,6 @@
 -- `judge`: the two tests. Assumes nothing.
 use mathlib.Core.Bool.{true}
 use mathlib.Core.Path.{◌≡◌, sym, ◌∙◌}
-use borrow.Author.Rules.{rules}
 use borrow.Author.Tests.{not-true, not-false}
 use Rattle.weak_orders.specs.Converted.{judged_by}
 use Rattle.weak_orders.specs.Window.{is_length}

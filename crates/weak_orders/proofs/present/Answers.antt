@@ -1,9 +1,9 @@
 use borrow.Author.Rules.{rules}
 use mathlib.Core.Path.{◌≡◌, ap, ap₂, ◌∙◌}
-use Prim.Native.Nat.{min, ◌≤◌, ◌-◌, ◌+◌}
+use Prim.Native.Nat.{min, ◌-◌, ◌+◌}
 use native.Mathlib.Omega.{arith}
 use lib.Bits.{bit_or}
-use lib.ListN.{length, take, drop}
+use lib.ListN.{length}
 use Rattle.weak_orders.specs.Tables.{bits_of}
 use Rattle.weak_orders.proofs.Parts.{take_capped, part_none, part_front}
 use Rattle.weak_orders.proofs.present.Goals as goal

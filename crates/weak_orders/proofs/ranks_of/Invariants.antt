@@ -1,11 +1,8 @@
 -- `ranks_of`: the array holds the ranks found so far. Assumes nothing.
-use borrow.Author.Rules.{rules}
-use mathlib.Core.Path.{◌≡◌, refl}
-use Prim.Native.Nat.{suc, ◌≤◌, ◌-◌}
-use native.Mathlib.Omega.{arith}
-use lib.ListN.{length, take, length-set}
-use Rattle.weak_orders.specs.Window.{below, ranks, padded}
-use Rattle.weak_orders.proofs.Padded.{padded-map, padded_mapped}
+use mathlib.Core.Path.{◌≡◌}
+use Prim.Native.Nat.{◌≤◌, ◌-◌}
+use lib.ListN.{length, take}
+use Rattle.weak_orders.specs.Window.{ranks, padded}
 use Rattle.weak_orders.proofs.ranks_of.Given as goal
 
 abbrev pub invariant-loop-i : goal.invariant-loop-i

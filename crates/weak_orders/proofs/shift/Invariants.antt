@@ -1,13 +1,8 @@
 -- `shift`: the array holds the symbols moved so far. Assumes nothing.
-use borrow.Author.Rules.{rules}
-use mathlib.Core.Path.{◌≡◌, refl, sym, ◌∙◌}
-use Prim.Native.Nat.{◌≤◌, ◌-◌, ◌+◌}
-use native.Mathlib.Omega.{arith}
-use lib.ListN.{length, take, length-set}
-use borrow.Author.Tests.{not-true, not-false}
+use mathlib.Core.Path.{◌≡◌}
+use Prim.Native.Nat.{◌≤◌, ◌-◌}
+use lib.ListN.{length, take}
 use Rattle.weak_orders.specs.Window.{padded, shifted}
-use Rattle.weak_orders.proofs.Padded.{padded-next, padded-all, shifted-length, shifted_at, shifted_last}
-use Rattle.weak_orders.proofs.FormTests.{says_length}
 use Rattle.weak_orders.proofs.shift.Given as goal
 
 abbrev pub invariant-loop-i : goal.invariant-loop-i

@@ -1,15 +1,14 @@
 use mathlib.Core.Bool.{true, false}
 use mathlib.Core.Path.{◌≡◌, refl, sym, ap₂, ◌∙◌}
-use Prim.Native.Nat.{◌+◌, ◌-◌, ◌≤◌}
+use Prim.Native.Nat.{◌+◌}
 use native.Mathlib.Omega.{arith}
 use lib.IntN.{pos}
-use lib.ListN.{length, get_or, drop}
+use lib.ListN.{length, get_or}
 use lib.Signed.{le_z}
 use mir.Facts.{to_z-of_z}
 use mir.Syntax.{w16}
 use mir.Val.{SFits}
 use borrow.Author.Rules.{rules}
-use Rattle.levels.specs.Table.{falls}
 use Rattle.levels.proofs.Tables.{falls_no, falls_yes, falls_end}
 use Rattle.levels.proofs.table.falls.Goals.{Else-table-d, Then-table-d}
 use Rattle.levels.proofs.table.falls.Goals as goal

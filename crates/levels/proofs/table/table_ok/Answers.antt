@@ -1,6 +1,6 @@
 use mathlib.Core.Bool.{false, ◌&&◌}
 use mathlib.Core.Path.{◌≡◌, refl, ◌∙◌}
-use Prim.Native.Nat.{◌+◌, ◌-◌, ◌≤◌}
+use Prim.Native.Nat.{◌+◌}
 use native.Mathlib.Omega.{arith}
 use lib.IntN.{pos}
 use lib.ListN.{length, get_or, drop}
@@ -11,7 +11,7 @@ use borrow.Author.Rules.{rules}
 use borrow.Author.Tests.{not-true, not-false, eq-eqb}
 use Rattle.weak_orders.specs.Window.{all}
 use Rattle.weak_orders.proofs.Lists.{all_from, all_past}
-use Rattle.levels.specs.Table.{level_allowed, falls, table_ok}
+use Rattle.levels.specs.Table.{level_allowed, table_ok}
 use Rattle.levels.proofs.table.table_ok.Goals.{After-level_allowed}
 use Rattle.levels.proofs.table.table_ok.Goals as goal
 

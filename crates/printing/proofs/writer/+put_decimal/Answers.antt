@@ -1,5 +1,5 @@
 -- `put_decimal` meets its contract, by induction on the number: the digits before the last one, and that one. Assumes nothing.
-use mathlib.Core.Path.{ap, ◌∙◌}
+use mathlib.Core.Path.{ap}
 use native.Mathlib.Nat.{mod-lt}
 use native.Mathlib.Omega.{arith}
 use lib.ListN.{length}

@@ -5,7 +5,6 @@ use lib.IntN.{pos, nat_abs, ◌-ℤ◌}
 use mir.Facts.{to_z-of_z, sfits_widen, Fits-nat_abs}
 use mir.Syntax.{w32, w64}
 use mir.Val.{SFits, Fits}
-use borrow.Author.Rules.{rules}
 use Rattle.levels.proofs.Differences.{zero_sub_negative}
 use Rattle.printing.proofs.WrittenLists.{above}
 use Rattle.printing.proofs.writer.magnitude.Goals.{Start, Then-z-lt0}

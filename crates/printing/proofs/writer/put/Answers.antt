@@ -1,6 +1,5 @@
 -- `put`: one byte, and the next index. Assumes nothing.
 use Rattle.printing.proofs.Written.{wrote_byte}
-use borrow.Author.Rules.{rules}
 use Rattle.printing.proofs.writer.put.Goals as goal
 
 pub returns : goal.returns

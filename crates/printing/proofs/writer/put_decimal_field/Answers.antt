@@ -4,7 +4,6 @@ use mathlib.Core.List.{[], ◌∷◌}
 use lib.ListN.{length-append}
 use Rattle.decimals.specs.Text.{decimal}
 use Rattle.printing.proofs.Written.{wrote_then}
-use borrow.Author.Rules.{rules}
 use Rattle.printing.proofs.writer.put_decimal_field.Goals as goal
 
 pub put_decimal-next-requires : goal.put_decimal-next-requires

@@ -4,7 +4,6 @@ use mathlib.Core.Path.{ap}
 use lib.ListN.{length}
 use Rattle.printing.proofs.Written.{wrote_then}
 use Rattle.printing.proofs.WrittenLists.{commaed_one}
-use borrow.Author.Rules.{rules}
 use Rattle.printing.proofs.writer.put_next.Goals as goal
 
 pub put-next-requires : goal.put-next-requires

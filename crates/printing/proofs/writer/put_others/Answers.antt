@@ -1,10 +1,9 @@
 use borrow.Author.Rules.{rules}
 use native.Mathlib.Omega.{arith}
 use mathlib.Core.Path.{◌≡◌}
-use Prim.Native.Nat.{◌+◌, ◌-◌, ◌≤◌}
+use Prim.Native.Nat.{◌+◌, ◌≤◌}
 use lib.ListN.{length, take, drop}
 use Rattle.decimals.specs.Text.{commaed}
-use Rattle.printing.specs.Writing.{Wrote}
 use Rattle.printing.proofs.Written.{wrote_none, wrote_then, wrote_length}
 use Rattle.printing.proofs.WrittenLists.{no_others, others_le, commaed-next, others_room}
 use Rattle.printing.proofs.writer.put_others.Goals.{At-loop-i}

@@ -8,7 +8,6 @@ use mir.Facts.{to_z-of_z}
 use Rattle.decimals.specs.Text.{decimal, signed}
 use Rattle.printing.proofs.Written.{wrote_then}
 use Rattle.printing.proofs.WrittenLists.{signed_below, signed_above}
-use borrow.Author.Rules.{rules}
 use Rattle.printing.proofs.writer.put_signed_field.Goals.{Else-z-lt0, Then-z-lt0}
 use Rattle.printing.proofs.writer.put_signed_field.Goals as goal
 

@@ -1,5 +1,4 @@
 -- `no_round` meets its contract. Assumes nothing.
-use borrow.Author.Rules.{rules}
 use Rattle.sheets.proofs.judge.no_round.Goals as goal
 
 pub returns : goal.returns

@@ -1,5 +1,4 @@
 -- `no_setting` meets its contract. Assumes nothing.
-use borrow.Author.Rules.{rules}
 use Rattle.sheets.proofs.judge.no_setting.Goals as goal
 
 pub returns : goal.returns

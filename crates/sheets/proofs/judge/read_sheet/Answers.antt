@@ -2,7 +2,6 @@
 use mathlib.Core.Path.{refl, ◌∙◌}
 use borrow.Author.Tests.{not-true, not-false}
 use Rattle.sheets.proofs.Judging.{malformed, well_formed}
-use borrow.Author.Rules.{rules}
 use Rattle.sheets.proofs.judge.read_sheet.Goals as goal
 
 pub returns-then-not-parsed : goal.returns-then-not-parsed

@@ -1,5 +1,4 @@
 -- `refused`: the cause, and no round. Assumes nothing.
-use borrow.Author.Rules.{rules}
 use Rattle.sheets.proofs.judge.refused.Goals as goal
 
 pub returns : goal.returns

@@ -8,7 +8,6 @@ use borrow.Author.Tests.{not-true, not-false}
 use Rattle.levels.specs.Level.{setting_of, top_ok, spacing_ok, setting_ok}
 use Rattle.levels.proofs.Sizes.{top_fits, spacing_fits}
 use Rattle.sheets.proofs.Settings.{not_ok, passes, top_out, spacing_out}
-use borrow.Author.Rules.{rules}
 use Rattle.sheets.proofs.judge.setting_test.Goals.{After-setting_of-setting, After-setting_ok, After-top_ok, Else-not-spacing_ok, Else-not-top_ok}
 use Rattle.sheets.proofs.judge.setting_test.Goals as goal
 

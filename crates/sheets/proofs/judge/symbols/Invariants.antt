@@ -1,12 +1,9 @@
 -- `symbols`: the array holds the items so far, each as a byte. Assumes nothing.
-use borrow.Author.Rules.{rules}
 use mathlib.Core.List.{map}
-use mathlib.Core.Path.{◌≡◌, refl}
+use mathlib.Core.Path.{◌≡◌}
 use Prim.Native.Nat.{◌≤◌, ◌-◌}
-use native.Mathlib.Omega.{arith}
-use lib.ListN.{length, take, length-set}
+use lib.ListN.{length, take}
 use Rattle.weak_orders.specs.Window.{padded}
-use Rattle.weak_orders.proofs.Padded.{padded-map, padded_mapped}
 use Rattle.sheets.specs.Judgement.{symbol_of}
 use Rattle.sheets.proofs.judge.symbols.Given as goal
 

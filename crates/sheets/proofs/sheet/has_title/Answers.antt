@@ -1,6 +1,5 @@
 -- `has_title`: the first line, as `begins_with` tests for it. Assumes nothing.
 use mathlib.Core.Path.{◌≡◌}
-use borrow.Author.Rules.{rules}
 use Rattle.decimals.specs.Reading.{begins_with}
 use Rattle.sheets.specs.Sheet.{title_line, has_title}
 use Rattle.sheets.proofs.sheet.has_title.Goals as goal

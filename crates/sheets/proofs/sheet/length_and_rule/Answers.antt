@@ -1,8 +1,7 @@
 -- `length_and_rule`: the second field stands where the first one ends. Assumes nothing.
 use native.Mathlib.Omega.{arith}
-use mathlib.Core.List.{List}
 use mathlib.Core.Path.{◌≡◌, sym, ap, ◌∙◌}
-use Prim.Native.Nat.{ℕ, ◌+◌, ◌≤◌}
+use Prim.Native.Nat.{◌+◌, ◌≤◌}
 use lib.ListN.{length, drop}
 use Rattle.decimals.specs.Held.{decimal_of}
 use Rattle.decimals.specs.Reading.{found, ended, number}
@@ -12,7 +11,6 @@ use Rattle.decimals.proofs.Readers.{takes_within}
 use Rattle.sheets.specs.Sheet.{length_and_rule}
 use Rattle.sheets.specs.Held.{length_and_rule_of}
 use Rattle.sheets.proofs.SheetTexts.{reads_field, reads_length_and_rule}
-use borrow.Author.Rules.{rules}
 use Rattle.sheets.proofs.sheet.length_and_rule.Goals.{In-Number, In-Number-number_field}
 use Rattle.sheets.proofs.sheet.length_and_rule.Goals as goal
 

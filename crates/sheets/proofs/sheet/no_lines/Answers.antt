@@ -1,6 +1,5 @@
 -- `no_lines`: the answer where nothing is found. Assumes nothing.
 use Rattle.sheets.specs.Held.{lines_of}
-use borrow.Author.Rules.{rules}
 use Rattle.sheets.proofs.sheet.no_lines.Goals as goal
 
 pub returns : goal.returns

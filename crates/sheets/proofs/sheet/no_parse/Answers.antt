@@ -1,6 +1,5 @@
 -- `no_parse`: the answer where there is no sheet. Assumes nothing.
 use Rattle.sheets.specs.Held.{parsed_of}
-use borrow.Author.Rules.{rules}
 use Rattle.sheets.proofs.sheet.no_parse.Goals as goal
 
 pub returns : goal.returns

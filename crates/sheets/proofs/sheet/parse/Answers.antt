@@ -3,7 +3,6 @@ use mathlib.Core.Path.{sym, ap, ◌∙◌}
 use borrow.Author.Tests.{not-true, not-false}
 use Rattle.sheets.specs.Held.{parsed_of}
 use Rattle.sheets.proofs.SheetLines.{parse_long, parse-missing, parse-part, parse_whole}
-use borrow.Author.Rules.{rules}
 use Rattle.sheets.proofs.sheet.parse.Goals as goal
 
 pub returns-then-text-gt128 : goal.returns-then-text-gt128

@@ -10,7 +10,6 @@ use Rattle.decimals.specs.Reading.{further}
 use Rattle.sheets.specs.Sheet.{has_title, fields, sheet_of, sheet_lines}
 use Rattle.decimals.proofs.Cursors.{part_from}
 use Rattle.sheets.proofs.SheetLines.{title_long, other_title, same_title, second-missing, second_found, second_within}
-use borrow.Author.Rules.{rules}
 use Rattle.sheets.proofs.sheet.sheet_lines.Goals.{After-fields-second, Else-not-has_title}
 use Rattle.sheets.proofs.sheet.sheet_lines.Goals as goal
 

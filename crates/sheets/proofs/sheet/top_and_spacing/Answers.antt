@@ -1,8 +1,7 @@
 -- `top_and_spacing`: the second field stands where the first one ends. Assumes nothing.
 use native.Mathlib.Omega.{arith}
-use mathlib.Core.List.{List}
 use mathlib.Core.Path.{◌≡◌, sym, ap, ◌∙◌}
-use Prim.Native.Nat.{ℕ, ◌+◌, ◌≤◌}
+use Prim.Native.Nat.{◌+◌, ◌≤◌}
 use lib.ListN.{length, drop}
 use mir.Facts.{to_z-of_z}
 use mir.Syntax.{w32}

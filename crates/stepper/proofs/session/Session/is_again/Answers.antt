@@ -10,7 +10,7 @@ use mir.Syntax.{w8}
 use Rattle.weak_orders.proofs.Tests.{by_test, not_true→false}
 use Rattle.frames.specs.Fields.{byte, same_bytes}
 use Rattle.frames.specs.Question.{length_in, begin_bytes}
-use Rattle.frames.proofs.ByteTests.{says_same_bytes, pointwise_same_bytes}
+use Rattle.frames.proofs.ByteTests.{says_same_bytes}
 use Rattle.stepper.specs.declared.session.Session.{Session}
 use Rattle.stepper.specs.Exchange.{begun_by, again_if}
 use borrow.Author.Rules.{rules}
@@ -37,6 +37,5 @@ pub returns : goal.returns
 unfolding again_if begun_by
 returns c =
     let s = c.args in
-    let bytes = c.begin_bytes-begun_by.result in
     rw (c.if-not-force.false, ← c.begin_bytes-begun_by.ensures)
-    (ap (λ t. eqb s.self.done 0 && t) (c.eq.ensures ∙ pointwise_same_bytes s.f bytes))
+    (ap (λ t. eqb s.self.done 0 && t) c.same.ensures)
