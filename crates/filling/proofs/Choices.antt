@@ -1,66 +1,54 @@
 -- The height for the first open place of a pattern leaves room for the missing ones, and no smaller one does. Assumes nothing.
-use mathlib.Core.Bool.{Bool, true, false, not}
+use mathlib.Core.Bool.{true, false, not}
 use mathlib.Core.List.{List, ◌∷◌, ◌++◌}
 use mathlib.Core.Path.{◌≡◌, refl, sym, ap, ◌∙◌}
 use Prim.Native.Nat.{ℕ, suc, max, ◌-◌, ◌≤◌, ◌<◌}
 use native.Mathlib.Omega.{arith}
 use native.Mathlib.Decide.{dec_lt}
 use lib.ListN.{get_or}
-use borrow.Author.Tests.{lt-ltb, le-ltb, not-true}
+use borrow.Author.Tests.{not-true}
 use Rattle.weak_orders.specs.Window.{range, occurs, different, bound}
-use Rattle.weak_orders.proofs.Lists.{first_index_lem, first_index_none, of_range, length-range, get_or_range}
+use Rattle.weak_orders.proofs.Lists.{first_index_none, of_range, length-range, get_or_range}
 use Rattle.weak_orders.proofs.Symbols.{in_occurs, height_gap, added_middle, bound_in, bound_middle, different-below, different≤bound}
 use Rattle.weak_orders.proofs.Symbols.{different-same, different_more}
 use Rattle.weak_orders.proofs.Tests.{by_test, bit, false→not_true}
 use Rattle.filling.specs.Choice.{least_missing, choice}
 use Rattle.filling.specs.Pattern.{is_open, fixed, open_places, missing}
-use Rattle.filling.proofs.Patterns.{fixed_open, fixed_held, open_cons, open_append, fixed_append}
+use Rattle.filling.proofs.Chosen.{test, least_up_to, fixed-before, choice_spare, choice_tight}
+use Rattle.filling.proofs.Patterns.{fixed_held, open_cons, open_append, fixed_append}
 
--- the least missing height, where there is one
 module _ (w : List ℕ) where
-  abbrev test : ℕ → Bool
-  test v = not (occurs w v)
-
-  least_up_to : (j : ℕ) → j < bound w → occurs w j ≡ false →
-      (least_missing w ≤ j) × (test (get_or (range (bound w)) (least_missing w) 0) ≡ true)
-  unfolding least_missing
-  least_up_to j lt o = first_index_lem test (range (bound w)) 0 j (omega (arith, length-range (bound w)))
-      (ap test (get_or_range (bound w) j lt) ∙ ap not o)
-
   pub least_missing_lem : different w < bound w → (least_missing w < bound w) × (occurs w (least_missing w) ≡ false)
   least_missing_lem h =
       let (u, lt, o) = height_gap w (bound w) (omega (arith, different-below w (bound w) (omega arith))) in
-      let (le, t) = least_up_to u lt o in
+      let (le, t) = least_up_to w u lt o in
       let l : least_missing w < bound w = omega arith in
-      (l, not-true (occurs w (least_missing w)) (ap test (sym (get_or_range (bound w) (least_missing w) l)) ∙ t))
+      (l, not-true (occurs w (least_missing w)) (ap (test w) (sym (get_or_range (bound w) (least_missing w) l)) ∙ t))
 
   below_least : (y : ℕ) → y < least_missing w → y < bound w → occurs w y ≡ true
-  below_least y lt in-bound = by_test (occurs w y) (λ o. o) (λ o. absurd (omega (arith, least_up_to y in-bound o)))
+  below_least y lt in-bound = by_test (occurs w y) (λ o. o) (λ o. absurd (omega (arith, least_up_to w y in-bound o)))
 
   -- where all below v are there and v is not, it is v
   pub least_at : (v : ℕ) → ((u : ℕ) → u < v → occurs w u ≡ true) → occurs w v ≡ false → least_missing w ≡ v
   unfolding least_missing
   least_at v low o = elim (dec_lt v (bound w)) [
     | yes lt ↦
-        let (le, t) = least_up_to v lt o in
-        let no_less : ¬ (least_missing w < v) = λ l. false→not_true (test (least_missing w)) (ap not (low (least_missing w) l))
-        (ap test (sym (get_or_range (bound w) (least_missing w) (omega arith))) ∙ t) in
+        let (le, t) = least_up_to w v lt o in
+        let no_less : ¬ (least_missing w < v) = λ l. false→not_true (test w (least_missing w)) (ap not (low (least_missing w) l))
+        (ap (test w) (sym (get_or_range (bound w) (least_missing w) (omega arith))) ∙ t) in
         omega arith
     | no ge ↦
         let no_more : ¬ (bound w < v) = λ l. omega (arith, bound_in (in_occurs w (bound w) (low (bound w) l))) in
-        let none = first_index_none test (range (bound w)) (λ u m. ap not (low u (omega (arith, of_range (bound w) m)))) in
+        let none = first_index_none (test w) (range (bound w)) (λ u m. ap not (low u (omega (arith, of_range (bound w) m)))) in
         omega (arith, none, length-range (bound w))
   ]
 
 -- ---- a pattern with an open place between u and v, and the same with x there
 
 module _ (u v : List ℕ) (b : ℕ) (o : is_open b ≡ true) where
-  fixed-before : fixed (u ++ (b ∷ v)) ≡ fixed u ++ fixed v
-  fixed-before = fixed_append u (b ∷ v) ∙ ap (λ k. fixed u ++ k) (fixed_open b v o)
-
   missing-before : missing (u ++ (b ∷ v)) ≡ bound (fixed u ++ fixed v) - different (fixed u ++ fixed v)
   unfolding missing
-  missing-before = rw fixed-before
+  missing-before = rw (fixed-before u v b o)
 
   module _ (x : ℕ) (h : is_open x ≡ false) where
     fixed-after : fixed (u ++ (x ∷ v)) ≡ fixed u ++ (x ∷ fixed v)
@@ -111,33 +99,25 @@ module _ (u v : List ℕ) (b : ℕ) (o : is_open b ≡ true) where
 
   -- ---- the choice
 
-  choice_spare : missing (u ++ (b ∷ v)) < open_places (u ++ (b ∷ v)) → choice (u ++ (b ∷ v)) ≡ 0
-  unfolding choice
-  choice_spare lt = rw (lt-ltb (missing (u ++ (b ∷ v))) (open_places (u ++ (b ∷ v))) lt)
-
-  choice_tight : open_places (u ++ (b ∷ v)) ≤ missing (u ++ (b ∷ v)) → choice (u ++ (b ∷ v)) ≡ least_missing (fixed u ++ fixed v)
-  unfolding choice
-  choice_tight le = rw (le-ltb (missing (u ++ (b ∷ v))) (open_places (u ++ (b ∷ v))) le, fixed-before)
-
   module _ (fits : missing (u ++ (b ∷ v)) ≤ open_places (u ++ (b ∷ v))) where
     -- it is 0, or below the largest fixed height
     pub choice-bound : choice (u ++ (b ∷ v)) < max 1 (bound (fixed (u ++ (b ∷ v))))
     choice-bound = elim (dec_lt (missing (u ++ (b ∷ v))) (open_places (u ++ (b ∷ v)))) [
-      | yes lt ↦ omega (arith, choice_spare lt)
+      | yes lt ↦ omega (arith, choice_spare u v b o lt)
       | no ge ↦
           let some : 0 < open_places (u ++ (b ∷ v)) = omega (arith, one_less 0 refl) in
-          omega (arith, choice_tight (omega arith), least_missing_lem (fixed u ++ fixed v) (omega (arith, missing-before)), ap bound fixed-before)
+          omega (arith, choice_tight u v b o (omega arith), least_missing_lem (fixed u ++ fixed v) (omega (arith, missing-before)), ap bound (fixed-before u v b o))
     ]
 
     pub choice_keeps : is_open (choice (u ++ (b ∷ v))) ≡ false →
         missing (u ++ (choice (u ++ (b ∷ v)) ∷ v)) ≤ open_places (u ++ (choice (u ++ (b ∷ v)) ∷ v))
     choice_keeps h = elim (dec_lt (missing (u ++ (b ∷ v))) (open_places (u ++ (b ∷ v)))) [
-      | yes lt ↦ spare _ h (choice_spare lt) lt
-      | no ge ↦ tight _ h (choice_tight (omega arith)) (omega arith)
+      | yes lt ↦ spare _ h (choice_spare u v b o lt) lt
+      | no ge ↦ tight _ h (choice_tight u v b o (omega arith)) (omega arith)
     ]
 
     pub choice_least : (y : ℕ) → is_open y ≡ false → y < choice (u ++ (b ∷ v)) → ¬ (missing (u ++ (y ∷ v)) ≤ open_places (u ++ (y ∷ v)))
     choice_least y h lt = elim (dec_lt (missing (u ++ (b ∷ v))) (open_places (u ++ (b ∷ v)))) [
-      | yes l ↦ absurd (omega (arith, choice_spare l))
-      | no ge ↦ crowded y h (omega (arith, choice_tight (omega arith))) (omega arith)
+      | yes l ↦ absurd (omega (arith, choice_spare u v b o l))
+      | no ge ↦ crowded y h (omega (arith, choice_tight u v b o (omega arith))) (omega arith)
     ]

@@ -19,7 +19,8 @@ use Rattle.filling.specs.Choice.{choice, height_for}
 use Rattle.filling.specs.Earliest.{earliest, IsFirst}
 use Rattle.filling.specs.Pattern.{is_open, is_pattern, Filling, fillable, fixed, open_places, missing}
 use Rattle.filling.proofs.Choices.{choice-bound, choice_keeps, choice_least}
-use Rattle.filling.proofs.Firsts.{filling_fillable, earliest_first, earliest_only, agrees_itself, agrees_only, first_kept}
+use Rattle.filling.proofs.Firsts.{filling_fillable, earliest_only, agrees_itself, agrees_only, first_kept}
+use Rattle.filling.proofs.Heads.{earliest_first}
 use Rattle.filling.proofs.Patterns.{open_nil, open_cons, open_append, fixed_whole, says_pattern, fixed-below, room}
 
 -- a pattern with at least as many open places as missing heights

@@ -1,5 +1,5 @@
--- The first filling in dictionary order: it heads the list of all fillings, and it stays the same where the first open place gets the least
--- height that leaves a filling. Assumes nothing.
+-- The first filling in dictionary order: there is only one, and it stays the same where the first open place gets the least height that leaves
+-- a filling. Assumes nothing.
 use mathlib.Core.Bool.{true, false}
 use mathlib.Core.List.{List, [], ◌∷◌, ◌++◌, append-nil}
 use mathlib.Core.Logic.{◌⊎◌, inl, inr, ⊎_elim}
@@ -7,49 +7,24 @@ use mathlib.Core.Path.{◌≡◌, refl, sym, ap₂}
 use Prim.Native.Nat.{ℕ, ◌<◌}
 use native.Mathlib.Omega.{arith}
 use native.Mathlib.Decide.{dec_lt, ℕ_discrete}
-use lib.ListN.{length, get_or}
-use borrow.Author.Tests.{not-false}
 use Rattle.weak_orders.specs.Window.{count}
 use Rattle.weak_orders.proofs.Lists.{count-pos}
-use Rattle.weak_orders.proofs.Tests.{◌∈◌, here, split_mem, bit, says_lt, false→not_true}
-use Rattle.rotations.specs.Order.{lex_le, lex_lt}
-use Rattle.rotations.proofs.Orders.{lex_cons, lex_refl, lex_antisymm, lex_lt_asymmetric}
-use Rattle.ranking.specs.Dictionary.{select, height_windows}
-use Rattle.ranking.proofs.Listing.{in_select, of_select, length-select}
-use Rattle.ranking.proofs.Places.{in_height_windows, of_height_windows}
-use Rattle.ranking.proofs.Sorted.{Sorted, one, sorted_select}
-use Rattle.ranking.proofs.Strings.{height_windows_sorted}
+use Rattle.weak_orders.proofs.Tests.{bit, says_lt, false→not_true}
+use Rattle.rotations.specs.Order.{lex_le}
+use Rattle.rotations.proofs.Orders.{lex_cons, lex_antisymm}
+use Rattle.ranking.specs.Dictionary.{height_windows}
+use Rattle.ranking.proofs.Places.{in_height_windows}
 use Rattle.filling.specs.Earliest.{earliest, IsFirst}
 use Rattle.filling.specs.Pattern.{is_open, agrees, Filling, fillable, open_places}
+use Rattle.filling.proofs.Heads.{earliest_first}
 use Rattle.filling.proofs.Patterns.{open_cons, says_agrees, no_shorter, no_longer, agrees_nil}
 
--- ---- the head of the list
-
-lt_le : (u v : List ℕ) → lex_lt u v ≡ true → lex_le u v ≡ true
-unfolding lex_lt
-lt_le u v h = not-false (lex_le u v) (lex_lt_asymmetric u v h)
-
-head_first : (l : List (List ℕ)) → Sorted lex_lt l → 0 < length l →
-    (get_or l 0 [] ∈ l) × ((v : List ℕ) → v ∈ l → lex_le (get_or l 0 []) v ≡ true)
-head_first [] s lt = absurd (omega arith)
-head_first (x ∷ l) (one f s) lt = (here, λ v m. split_mem (λ e. rw e (lex_refl x)) (λ k. lt_le x v (f v k)) m)
+-- ---- there is one just where the pattern has a filling
 
 pub filling_fillable : (n : ℕ) (p w : List ℕ) → Filling n p w → fillable n p ≡ true
 unfolding fillable
 filling_fillable n p w f =
     (says_lt 0 (count (agrees p) (height_windows n))).of (count-pos (agrees p) (in_height_windows n w f.weak_order) f.agreeing)
-
-pub earliest_first : (n : ℕ) (p : List ℕ) → fillable n p ≡ true → IsFirst n p (earliest n p)
-unfolding fillable earliest
-earliest_first n p t =
-    let some = (says_lt 0 (count (agrees p) (height_windows n))).to t in
-    let l = select (agrees p) (height_windows n) in
-    let (m, low) = head_first l (sorted_select (agrees p) (height_windows_sorted n)) (omega (arith, length-select (agrees p) (height_windows n))) in
-    let (i, a) = of_select (agrees p) (height_windows n) m in
-    record {
-      filling = record { weak_order = of_height_windows n i; agreeing = a };
-      first = λ v f. low v (in_select (agrees p) (in_height_windows n v f.weak_order) f.agreeing);
-    }
 
 pub earliest_only : (n : ℕ) (p w : List ℕ) → IsFirst n p w → w ≡ earliest n p
 earliest_only n p w F =

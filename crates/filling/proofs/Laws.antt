@@ -14,7 +14,8 @@ use Rattle.filling.specs.Claims.{EarliestLaws}
 use Rattle.filling.specs.Earliest.{earliest}
 use Rattle.filling.specs.Pattern.{is_pattern, fillable, open_places, missing}
 use Rattle.filling.proofs.Fillings.{HasRoom, first_whole, room_fillable}
-use Rattle.filling.proofs.Firsts.{filling_fillable, earliest_first, earliest_only}
+use Rattle.filling.proofs.Firsts.{filling_fillable, earliest_only}
+use Rattle.filling.proofs.Heads.{earliest_first}
 use Rattle.filling.proofs.Patterns.{room}
 
 -- where a weak order agrees, there is room for the missing heights

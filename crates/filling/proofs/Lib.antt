@@ -1,5 +1,7 @@
 pub mod Patterns
+pub mod Chosen
 pub mod Choices
+pub mod Heads
 pub mod Firsts
 pub mod Fillings
 pub mod Laws

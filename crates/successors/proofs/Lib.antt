@@ -12,6 +12,7 @@ pub mod RuleNumbers
 pub mod StepForm
 pub mod Steppable
 pub mod Stepped
+pub mod Undoing
 pub mod StepBack
 pub mod RotationsUnder
 pub mod Claims

@@ -4,9 +4,7 @@ use mathlib.Core.List.{List}
 use mathlib.Core.Path.{◌≡◌, refl, sym, ap, ◌∙◌}
 use Prim.Native.Nat.{ℕ, min, ◌<◌}
 use native.Mathlib.Omega.{arith}
-use native.Mathlib.Decide.{ℕ_discrete}
 use lib.ListN.{length, take, length-take}
-use borrow.Author.Tests.{ne_eqb}
 use Rattle.weak_orders.specs.Window.{padded}
 use Rattle.weak_orders.proofs.Padded.{length-padded, take-padded}
 use Rattle.weak_orders.proofs.Parts.{take_capped}
@@ -22,28 +20,9 @@ use Rattle.successors.proofs.Rule1.{rule1_undoes_rule1}
 use Rattle.successors.proofs.RuleNumbers.{by_rule}
 use Rattle.successors.proofs.Rules23.{rule3_undoes_rule2, rule2_undoes_rule3}
 use Rattle.successors.proofs.StepForm.{form_rotated, change_in_form}
+use Rattle.successors.proofs.Undoing.{undoing_known, undoing_form}
 
--- ---- the undoing rule
-
--- 2 and 3 undo each other, and any other number is its own
-by_undoing : (P : ℕ → ℕ → Type 0) → P 2 3 → P 3 2 → ((r : ℕ) → P r r) → (r : ℕ) → P r (undoing r)
-unfolding undoing
-by_undoing P p q own r = elim (ℕ_discrete r 2) [
-  | yes e ↦ rw e p
-  | no x ↦ elim (ℕ_discrete r 3) [
-    | yes e ↦ rw e q
-    | no y ↦ rw (ne_eqb r 2 x, ne_eqb r 3 y) (own r)
-  ]
-]
-
--- it is a rule just if the rule is one, and takes the same form
-undoing_known : (r : ℕ) → is_rule (undoing r) ≡ is_rule r
-unfolding is_rule
-undoing_known = by_undoing (λ r q. is_rule q ≡ is_rule r) refl refl (λ r. refl)
-
-undoing_form : (r : ℕ) (w : List ℕ) → in_form (undoing r) w ≡ in_form r w
-unfolding in_form
-undoing_form r w = by_undoing (λ r q. in_form q w ≡ in_form r w) refl refl (λ r. refl) r
+-- ---- the undoing rule's change
 
 record Undone (r : ℕ) (w : List ℕ) : Type 0 where
   forth : change (rule_of r) (change (rule_of (undoing r)) w) ≡ w

@@ -5,5 +5,6 @@ pub mod Agreeing
 pub mod RotationClasses1
 pub mod RotationClasses23
 pub mod Rounds
+pub mod MovedLists
 pub mod TwoStarts
 pub mod Examples

@@ -1,16 +1,12 @@
 -- Two starts of one round, from the tour of the first. Assumes nothing.
-use mathlib.Core.List.{◌++◌, map}
-use mathlib.Core.Path.{◌≡◌, refl, sym, ap, ap₂, ◌∙◌}
-use Prim.Native.Nat.{ℕ, suc, ◌+◌, ◌-◌, ◌≤◌, ◌<◌}
+use mathlib.Core.Path.{◌≡◌, refl, sym, ap, ◌∙◌}
+use Prim.Native.Nat.{ℕ, suc, ◌<◌}
 use native.Mathlib.Omega.{arith}
 use native.Mathlib.Decide.{dec_lt}
-use lib.ListN.{length, take, drop, length-map}
-use lib.Seq.{take_at, drop_at}
-use Rattle.weak_orders.specs.Window.{range, iter}
-use Rattle.weak_orders.proofs.Iterates.{iter_add}
-use Rattle.weak_orders.proofs.Lists.{length-range, map_cong, map_range}
+use Rattle.weak_orders.specs.Window.{iter}
 use Rattle.universal_cycle.specs.Round.{Tour}
-use Rattle.universal_cycle.specs.TwoStarts.{listed, moved, Between, TwoStarts}
+use Rattle.universal_cycle.specs.TwoStarts.{listed, Between, TwoStarts}
+use Rattle.universal_cycle.proofs.MovedLists.{moved_list}
 use Rattle.universal_cycle.proofs.Rounds.{universal_cycle}
 
 -- ---- what a tour meets before its last step
@@ -33,35 +29,6 @@ module _ {A : Type 0} {P : A → Type 0} {f : A → A} {N : ℕ} {s : A} (t : To
         (0, omega (arith, o.first), sym t.closed ∙ ap (λ k. iter f k s) (sym last) ∙ o.met)
   ]
 
--- ---- the list from c steps further on
-
-module _ {A : Type 0} (f : A → A) (N c : ℕ) (u : A) (closed : iter f N u ≡ u) (le : c ≤ N) where
-  abbrev after : ℕ → A
-  after k = iter f (suc k) u
-
-  later : (k : ℕ) → iter f (suc k) (iter f c u) ≡ after (c + k)
-  later k = let e : suc k + c ≡ suc (c + k) = omega arith in sym (iter_add f (suc k) c u) ∙ ap (λ j. iter f j u) e
-
-  -- past the end of the round it begins anew
-  again : (i : ℕ) → iter f (suc (N - c + i)) (iter f c u) ≡ after i
-  again i =
-      let e : suc (N - c + i) + c ≡ suc i + N = omega arith in
-      sym (iter_add f (suc (N - c + i)) c u) ∙ ap (λ j. iter f j u) e ∙ iter_add f (suc i) N u ∙ ap (iter f (suc i)) closed
-
-  moved_list : listed f N (iter f c u) ≡ moved c (listed f N u)
-  unfolding listed moved
-  moved_list =
-      let rest : N ≡ N - c + c = omega arith in
-      let whole : N ≡ c + (N - c) = omega arith in
-      let front = map after (range c) in
-      let behind = map (λ i. after (c + i)) (range (N - c)) in
-      let size : length front ≡ c = length-map (range c) after ∙ length-range c in
-      let parts : map after (range N) ≡ front ++ behind = ap (λ m. map after (range m)) whole ∙ map_range after c (N - c) in
-      ap (λ m. map (λ k. iter f (suc k) (iter f c u)) (range m)) rest
-      ∙ map_range (λ k. iter f (suc k) (iter f c u)) (N - c) c
-      ∙ ap₂ ◌++◌ (map_cong _ (λ i. after (c + i)) (range (N - c)) (λ k m. later k)) (map_cong _ after (range c) (λ i m. again i))
-      ∙ sym (ap (λ l. drop c l ++ take c l) parts ∙ ap₂ ◌++◌ (drop_at front behind c size) (take_at front behind c size))
-
 -- ---- the steps between
 
 pub between : {A : Type 0} {P : A → Type 0} {f : A → A} {N : ℕ} {u : A} → Tour P f N u → (v : A) → P v → Between f N u v
@@ -71,7 +38,7 @@ between {f = f} {N = N} {u = u} t v p =
       steps = k;
       below = lt;
       leads = e;
-      only = λ j l e'. apart t j k l lt (e' ∙ sym e);
+      only = λ j l e'. apart t j k (omega arith) lt (e' ∙ sym e);
       lists = ap (listed f N) (sym e) ∙ moved_list f N k u t.closed (omega arith);
     }
 

@@ -1,5 +1,6 @@
 -- `exchange` meets its contract: without room nothing is written, else the answer over the first forty bytes. Assumes nothing.
 use mathlib.Core.Path.{◌≡◌, ap, sym, ◌∙◌}
+use native.Mathlib.Omega.{arith}
 use lib.ListN.{length}
 use lib.Seq.{length-take-le}
 use Rattle.stepper.specs.Exchange.{answer_to}
@@ -13,7 +14,7 @@ use Rattle.handler.proofs.exchange.Goals as goal
 pub returns-then-answer-lt40 : goal.returns-then-answer-lt40
 returns-then-answer-lt40 c =
     ap (λ x. (x, c.args.answer.now)) c.refuse.ensures
-    ∙ sym (no_room c.args.session c.args.frame.now c.args.answer.now c.if-answer-lt40.true)
+    ∙ sym (no_room c.args.session c.args.frame.now c.args.answer.now (omega arith))
 
 pub answer_to-bytes-requires : goal.answer_to-bytes-requires
 answer_to-bytes-requires c =
@@ -23,10 +24,10 @@ answer_to-bytes-requires c =
 pub copy_from_slice-requires : goal.copy_from_slice-requires
 copy_from_slice-requires c =
     let bytes : length c.answer_to-bytes.result ≡ 40 = search rules in
-    rw bytes (length-take-le 40 c.args.answer.now c.if-answer-lt40.false)
+    rw bytes (length-take-le 40 c.args.answer.now (omega arith))
 
 pub returns : goal.returns
 returns c =
     rw c.copy_from_slice.ensures.after
-    (written_over c.args.session c.args.frame.now c.args.answer.now _ _ c.if-answer-lt40.false c.handle-x.ensures
+    (written_over c.args.session c.args.frame.now c.args.answer.now _ _ (omega arith) c.handle-x.ensures
     (c.answer_to-bytes.ensures ∙ ap (λ v. answer_to v c.handle-x.result) c.is_second-second.ensures))

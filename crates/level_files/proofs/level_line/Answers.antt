@@ -64,7 +64,7 @@ returns-in_default-signed_field c = let r = c in
 pub returns-then-value-d : goal.returns-then-value-d
 unfolding line_of signed_of
 returns-then-value-d c = let k = c in
-    let other : ¬ (k.in-Number.value ≡ k.args.d) = c.if-value-d.true in
+    let other : ¬ (k.in-Number.value ≡ k.args.d) = omega arith in
     rw (line (goal.at.returns-then-value-d c).In-Number-signed_field, ne_eqb _ _ other)
 
 pub overflow_add-result : goal.overflow_add-result
@@ -74,6 +74,6 @@ overflow_add-result c = let l = (goal.at.overflow_add-result c).In-Number-signed
 pub returns : goal.returns
 unfolding line_of signed_of
 returns c = let k = c in
-    let same : k.in-Number.value ≡ k.args.d = c.if-value-d.false in
+    let same : k.in-Number.value ≡ k.args.d = omega arith in
     let h : SFits w32 c.in-Number-signed_field.level = search rules in
     rw (line (goal.at.returns c).In-Number-signed_field, eq-eqb _ _ same, to_z-of_z h)

@@ -5,7 +5,7 @@ use native.Mathlib.Omega.{arith}
 use lib.ListN.{take}
 use Rattle.successors.proofs.Steppable.{says_steppable}
 use Rattle.rotating_steps.proofs.Loop.{Walking, begun, sized, onward, others_le}
-use Rattle.rotating_steps.proofs.count_other.Goals.{After-differ-total, Start}
+use Rattle.rotating_steps.proofs.count_other.Goals.{Start}
 use Rattle.rotating_steps.proofs.count_other.Goals as goal
 
 start : (c : Start) → Walking c.args.rule c.args.n c.args.w c.args.w 0 0
@@ -23,19 +23,13 @@ bounds-next-last c = omega (arith, sized c.loop-i.invariant.0)
 pub bounds-v-0 : goal.bounds-v-0
 bounds-v-0 c = omega (arith, sized c.loop-i.invariant.0)
 
-further : (c : After-differ-total) →
-    let a = c.args in
-    let l = c.loop-i in
-    Walking a.rule a.n a.w c.step-next.result (l.total + c.differ-total.result) (l.i + 1)
-further c = onward c.loop-i.invariant.0 c.step-next.ensures c.differ-total.ensures
-
 pub overflow_add-total : goal.overflow_add-total
 overflow_add-total c = let a = c.args in
-    let i = c.loop-i.i in
-    omega (arith, (further c).tally, others_le a.rule (take a.n a.w) (i + 1))
+    let further = onward c.loop-i.invariant.0 c.step-next.ensures c.differ-total.ensures in
+    omega (arith, further.tally, others_le a.rule (take a.n a.w) (c.loop-i.i + 1))
 
 pub loop-i-preserved : goal.loop-i-preserved
-loop-i-preserved c = (further c, omega arith)
+loop-i-preserved c = (onward c.loop-i.invariant.0 c.step-next.ensures c.differ-total.ensures, omega arith)
 
 pub returns : goal.returns
 returns c = let e : c.loop-i.i ≡ c.args.steps = omega arith in

@@ -3,6 +3,7 @@ use mathlib.Core.Bool.{true}
 use mathlib.Core.List.{List}
 use mathlib.Core.Path.{◌≡◌, sym, ap, ◌∙◌}
 use Prim.Native.Nat.{ℕ, ◌≤◌}
+use native.Mathlib.Omega.{arith}
 use lib.ListN.{take}
 use borrow.Author.Rules.{rules}
 use Rattle.refusals.specs.declared.Verdict.TheVariants.{Accepted}
@@ -47,7 +48,7 @@ successor2-requires c = in-heights (goal.at.successor2-requires c).In-Accepted
 pub returns-then-rule-eq2 : goal.returns-then-rule-eq2
 returns-then-rule-eq2 c = let told = (goal.at.returns-then-rule-eq2 c).In-Accepted in
     let a = (start told).args in
-    let two = is_rule2 a.rule (window (start told)) told.if-rule-eq1.false c.if-rule-eq2.true in
+    let two = is_rule2 a.rule (window (start told)) told.if-rule-eq1.false (omega arith) in
     sym (follows told ∙ ap Symbol (two ∙ sym c.successor2.ensures))
 
 pub successor3-requires : goal.successor3-requires
@@ -56,7 +57,7 @@ successor3-requires c = in-heights (goal.at.successor3-requires c).In-Accepted
 pub returns-else-rule-eq2 : goal.returns-else-rule-eq2
 returns-else-rule-eq2 c = let told = (goal.at.returns-else-rule-eq2 c).In-Accepted in
     let a = (start told).args in
-    let three = is_rule3 a.rule (window (start told)) told.if-rule-eq1.false c.if-rule-eq2.false in
+    let three = is_rule3 a.rule (window (start told)) told.if-rule-eq1.false (omega arith) in
     sym (follows told ∙ ap Symbol (three ∙ sym c.successor3.ensures))
 
 pub returns-in-Refused : goal.returns-in-Refused

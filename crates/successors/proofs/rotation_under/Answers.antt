@@ -1,5 +1,6 @@
 -- `rotation_under`: as the window is judged, and as the rule is 1 or another. Assumes nothing.
 use mathlib.Core.Path.{◌≡◌, sym, ap, ◌∙◌}
+use native.Mathlib.Omega.{arith}
 use lib.ListN.{take}
 use borrow.Author.Rules.{rules}
 use borrow.Author.Tests.{eq-eqb, ne_eqb}
@@ -18,12 +19,12 @@ passed c = sym c.judge-verdict.ensures ∙ c.in-Accepted.is
 pub returns-then-rule-eq1 : goal.returns-then-rule-eq1
 unfolding rotation_answer rotation_by rotation_under
 returns-then-rule-eq1 c = let told = (goal.at.returns-then-rule-eq1 c).In-Accepted in
-    rw (passed told, eq-eqb told.args.rule 1 c.if-rule-eq1.true) (ap Found c.least_rotation.ensures)
+    rw (passed told, eq-eqb told.args.rule 1 (omega arith)) (ap Found c.least_rotation.ensures)
 
 pub returns-else-rule-eq1 : goal.returns-else-rule-eq1
 unfolding rotation_answer rotation_by rotation_under
 returns-else-rule-eq1 c = let told = (goal.at.returns-else-rule-eq1 c).In-Accepted in
-    rw (passed told, ne_eqb told.args.rule 1 c.if-rule-eq1.false) (ap Found c.greatest_rotation.ensures)
+    rw (passed told, ne_eqb told.args.rule 1 (omega arith)) (ap Found c.greatest_rotation.ensures)
 
 pub returns-in-Refused : goal.returns-in-Refused
 unfolding rotation_answer rotation_by

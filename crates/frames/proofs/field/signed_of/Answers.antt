@@ -26,14 +26,14 @@ pub returns-then-x-lt32768 : goal.returns-then-x-lt32768
 returns-then-x-lt32768 c = rw (lt-ltb _ 32768 c.if-x-lt32768.true)
 
 pub overflow_sub-result : goal.overflow_sub-result
-overflow_sub-result c = rw (difference (goal.at.overflow_sub-result c).Start c.if-x-lt32768.false) (sfits_widen tt (fits (goal.at.overflow_sub-result c).Start))
+overflow_sub-result c = rw (difference (goal.at.overflow_sub-result c).Start (omega arith)) (sfits_widen tt (fits (goal.at.overflow_sub-result c).Start))
 
 pub overflow_cast-result-3 : goal.overflow_cast-result-3
 overflow_cast-result-3 c = let s = (goal.at.overflow_cast-result-3 c).Start in
     let wide : SFits w32 (signed16 s.args.x) = sfits_widen tt (fits s) in
-    rw (difference s c.if-x-lt32768.false, to_z-of_z wide) (fits s)
+    rw (difference s (omega arith), to_z-of_z wide) (fits s)
 
 pub returns : goal.returns
 returns c = let s = (goal.at.returns c).Start in
     let wide : SFits w32 (signed16 s.args.x) = sfits_widen tt (fits s) in
-    rw (difference s c.if-x-lt32768.false, to_z-of_z wide, to_z-of_z (fits s))
+    rw (difference s (omega arith), to_z-of_z wide, to_z-of_z (fits s))

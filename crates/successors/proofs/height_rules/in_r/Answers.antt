@@ -46,12 +46,11 @@ decided : (c : After-own_standing-standing) →
     is_first c.own_standing-standing.result ≡ in_r (s.args.x ∷ tail s)
 decided c =
     let s = c.before.before.before.before.before.before in
-    let ne = c.if-x-eq0.false in
     let top = sym c.none_above.ensures ∙ c.if-not-none_above.false in
     let full = sym c.all_behind.ensures ∙ c.if-not-all_behind.false in
     ap is_first (c.own_standing-standing.ensures ∙ ap own_standing (with_first (array s) s.args.x))
     ∙ first_greatest (s.args.x ∷ tail s)
-    ∙ in_r_greatest (head s) s.args.x (tail s) (form s) (omega (arith, ne)) top full
+    ∙ in_r_greatest (head s) s.args.x (tail s) (form s) (omega arith) top full
 
 pub returns-in-Greatest : goal.returns-in-Greatest
 returns-in-Greatest c = let d = (goal.at.returns-in-Greatest c).After-own_standing-standing in sym (ap is_first c.in-Greatest.is) ∙ decided d

@@ -5,8 +5,7 @@ use Prim.Native.Nat.{ℕ}
 use borrow.Author.Rules.{rules}
 use lib.ListN.{length, take}
 use Rattle.refusals.specs.declared.Verdict.TheVariants.{Accepted}
-use Rattle.weak_orders.specs.Converted.{is_rank_window, judged_by}
-use Rattle.weak_orders.specs.Tables.{is_rank_table}
+use Rattle.weak_orders.specs.Converted.{is_rank_window}
 use Rattle.weak_orders.specs.Window.{is_rank}
 use Rattle.weak_orders.proofs.FormTests.{says_length, rank_by_table}
 use Rattle.weak_orders.proofs.Judged.{judged_array}
@@ -15,7 +14,7 @@ use Rattle.successors.specs.Rules.{rule1}
 use Rattle.successors.specs.declared.Next.TheVariants.{Symbol}
 use Rattle.successors.proofs.RuleNumbers.{form_rank, is_rule1}
 use Rattle.successors.proofs.Steppable.{steppable_of, judged-ranks}
-use Rattle.successors.proofs.rank_rule.next_in_ranks.Goals.{After-is_rank_table, After-judge-verdict, In-Accepted, Start}
+use Rattle.successors.proofs.rank_rule.next_in_ranks.Goals.{After-judge-verdict, In-Accepted, Start}
 use Rattle.successors.proofs.rank_rule.next_in_ranks.Goals as goal
 
 abbrev window : Start → List ℕ
@@ -24,20 +23,14 @@ window s = take s.args.n s.args.w
 long : (s : Start) → length s.args.w ≡ 16
 long s = search rules
 
--- the test of the table is the test of the form, and the verdict by it is the rule's
-tested : (c : After-is_rank_table) → c.is_rank_table.result ≡ is_rank_window c.args.n c.args.w
-tested c =
-    let s = c.before.before in
-    let e : is_rank_table s.args.n c.counts-t.result ≡ is_rank_window s.args.n s.args.w =
-    rw c.counts-t.ensures.value (rank_by_table s.args.w s.args.n (long s)) in
-    c.is_rank_table.ensures ∙ e
-
+-- the test of the table is the test of the form, so the verdict by it is the rule's
 verdict : (c : After-judge-verdict) → let s = c.before.before.before in c.judge-verdict.result ≡ judged 1 s.args.n (window s)
 unfolding is_rank_window
 verdict c =
     let s = c.before.before.before in
-    c.judge-verdict.ensures ∙ ap (judged_by s.args.n) (tested c.before)
-    ∙ judged_array is_rank s.args.n s.args.w (long s) ∙ judged-ranks s.args.n (window s)
+    let tested = rank_by_table s.args.w s.args.n (long s) in
+    let known = judged_array is_rank s.args.n s.args.w (long s) ∙ judged-ranks s.args.n (window s) in
+    cc (tested, known)
 
 passed : (c : In-Accepted) → let s = c.before.before.before.before in judged 1 s.args.n (window s) ≡ Accepted
 passed c = sym (verdict c.before) ∙ c.in-Accepted.is

@@ -27,9 +27,6 @@ pub overflow_cast-v : goal.overflow_cast-v
 overflow_cast-v c = let h : Fits w8 (get_or c.args.w c.loop-j.j 0) = search rules in
     record { fits = omega (arith, h.fits) }
 
-pub returns-then-v-eq1 : goal.returns-then-v-eq1
-returns-then-v-eq1 c f = absurd (false≢true f)
-
 pub bounds-t-v : goal.bounds-t-v
 bounds-t-v c = let p = c in
     let a = p.args in
@@ -40,22 +37,24 @@ unfolding passes_by single_by
 returns-then-v-p c _ k pos lt one = let p = c in
     let a = p.args in
     let v = get_or a.w p.loop-j.j 0 in
-    let here : p.loop-j.j ≢ k = λ e. c.if-v-eq1.false (rw e one) in
+    let other : v ≢ 1 = omega arith in
+    let here : p.loop-j.j ≢ k = λ e. other (rw e one) in
     let later : ¬ (k < p.loop-j.j) = λ l. p.loop-j.invariant.1 k pos l one in
     let fails : passes_by a.t a.p v ≡ false =
-    by_test (eqb v a.p) (λ e. rw e) (λ e. rw (e, ne_eqb v 1 c.if-v-eq1.false, not-true (eqb (get_or a.t v 0) 1) (rw e at c.if-v-p.true))) in
+    by_test (eqb v a.p) (λ e. rw e) (λ e. rw (e, ne_eqb v 1 other, not-true (eqb (get_or a.t v 0) 1) (rw e at c.if-v-p.true))) in
     not_true→false _ (λ t. false→not_true _ fails
     (all_in (passes_by a.t a.p) t
     (at_part a.w 1 k (omega (arith, fits (goal.at.returns-then-v-p c).Start)) p.loop-j.j (omega arith) (omega (arith, here)))))
 
 pub loop-j-preserved : goal.loop-j-preserved
-loop-j-preserved c = let p = c in (
-  omega arith,
-  λ k pos lt one. elim (dec_lt k p.loop-j.j) [
-    | yes l ↦ p.loop-j.invariant.1 k pos l one
-    | no l ↦ let e : p.loop-j.j ≡ k = omega arith in c.if-v-eq1.false (rw e one)
-  ],
-)
+loop-j-preserved c = let p = c in
+    let other : get_or p.args.w p.loop-j.j 0 ≢ 1 = omega arith in (
+      omega arith,
+      λ k pos lt one. elim (dec_lt k p.loop-j.j) [
+        | yes l ↦ p.loop-j.invariant.1 k pos l one
+        | no l ↦ let e : p.loop-j.j ≡ k = omega arith in other (rw e one)
+      ],
+    )
 
 pub returns : goal.returns
 returns c f = absurd (false≢true f)
