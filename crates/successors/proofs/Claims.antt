@@ -1,5 +1,5 @@
 -- The claims on the rules and on a step. Assumes nothing.
-use mathlib.Core.List.{List, [], ◌∷◌, head-eq_of_cons-eq}
+use mathlib.Core.List.{[], ◌∷◌, head-eq_of_cons-eq}
 use mathlib.Core.Path.{refl}
 use native.Mathlib.Omega.{arith}
 use Rattle.successors.specs.Claims.{RulesUndo, StepKeeps, Predecessor, StepBackValues}

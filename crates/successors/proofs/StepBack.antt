@@ -1,7 +1,7 @@
 -- The step back: a step is a change of the first symbol and a turn, so a turn back and the undoing rule's change undo it. Assumes nothing.
 use mathlib.Core.Bool.{true}
 use mathlib.Core.List.{List}
-use mathlib.Core.Path.{◌≡◌, refl, sym, ap, ◌∙◌}
+use mathlib.Core.Path.{◌≡◌, sym, ap, ◌∙◌}
 use Prim.Native.Nat.{ℕ, min, ◌<◌}
 use native.Mathlib.Omega.{arith}
 use lib.ListN.{length, take, length-take}
@@ -11,9 +11,9 @@ use Rattle.weak_orders.proofs.Parts.{take_capped}
 use Rattle.weak_orders.proofs.Tests.{same_test, says_itself}
 use Rattle.rotations.specs.Rotation.{turned_back}
 use Rattle.rotations.proofs.Rotations.{turn, ⟳-sym, length_rotated, turn_back, back_turn, turned_back_lem, newest_front}
-use Rattle.successors.specs.Claims.{Predecessor, StepBack}
+use Rattle.successors.specs.Claims.{StepBack}
 use Rattle.successors.specs.NextSymbol.{judged, next_symbol}
-use Rattle.successors.specs.Rules.{rule_of, in_form, is_rule, step}
+use Rattle.successors.specs.Rules.{rule_of, in_form, is_rule}
 use Rattle.successors.specs.StepBack.{undoing, previous_of, predecessor, previous_symbol}
 use Rattle.successors.proofs.FirstSymbol.{change, turn_change, length_change}
 use Rattle.successors.proofs.Rule1.{rule1_undoes_rule1}

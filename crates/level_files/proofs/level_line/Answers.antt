@@ -1,8 +1,7 @@
 -- `level_line`: the level stands where the number ends, and the number is that of the line. Assumes nothing.
 use native.Mathlib.Omega.{arith}
-use mathlib.Core.List.{List}
 use mathlib.Core.Path.{◌≡◌, refl, sym, ap, ◌∙◌}
-use Prim.Native.Nat.{ℕ, ◌+◌, ◌≤◌}
+use Prim.Native.Nat.{◌+◌, ◌≤◌}
 use lib.ListN.{length, drop}
 use mir.Facts.{to_z-of_z}
 use mir.Syntax.{w32}

@@ -8,7 +8,6 @@ use Prim.Native.Nat.{ℕ, ◌+◌, ◌≤◌}
 use lib.Dec.{eqb}
 use lib.ListN.{length, drop, length-drop}
 use borrow.Author.Tests.{not-true, not-false}
-use borrow.Author.Rules.{rules}
 use Rattle.decimals.specs.Reading.{begins_with}
 use Rattle.decimals.proofs.Cursors.{begins_long, part_from}
 use Rattle.level_files.specs.LevelFile.{title_line, levels, read_table}

@@ -1,5 +1,4 @@
 -- `can_step`: the rule's number, and the form. Assumes nothing.
-use borrow.Author.Rules.{rules}
 use Rattle.successors.specs.NextSymbol.{steppable}
 use Rattle.successors.proofs.can_step.Goals as goal
 

@@ -1,5 +1,4 @@
 -- `in_form` is the test of the form by the rule's number. Assumes nothing.
-use borrow.Author.Rules.{rules}
 use lib.ListN.{take}
 use Rattle.weak_orders.specs.Converted.{is_rank_window, is_height_window}
 use Rattle.successors.proofs.RuleNumbers.{form_rank, form_height}

@@ -6,7 +6,7 @@ use lib.Dec.{eqb}
 use lib.ListN.{length, take}
 use lib.Seq.{length-take-le}
 use borrow.Author.Rules.{rules}
-use borrow.Author.Tests.{eq-eqb, not-true, not-false}
+use borrow.Author.Tests.{eq-eqb}
 use Rattle.weak_orders.specs.Window.{is_length}
 use Rattle.weak_orders.proofs.FormTests.{says_length}
 use Rattle.successors.specs.NextSymbol.{judged}

@@ -1,5 +1,4 @@
 -- `number` meets its contract, by the table of refusals. Assumes nothing.
-use borrow.Author.Rules.{rules}
 use Rattle.frames.proofs.answer.number.Goals as goal
 
 pub returns-in-Refused : goal.returns-in-Refused

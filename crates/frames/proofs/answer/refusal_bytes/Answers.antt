@@ -1,5 +1,4 @@
 -- `refusal_bytes` meets its contract: the number stands at 4, and the header over four zeros. Assumes nothing.
-use borrow.Author.Rules.{rules}
 use Rattle.frames.proofs.answer.refusal_bytes.Goals as goal
 
 pub returns : goal.returns

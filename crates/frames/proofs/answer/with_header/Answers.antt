@@ -1,6 +1,5 @@
 -- `with_header` meets its contract, by the frame's version. Assumes nothing.
 use mathlib.Core.Path.{◌∙◌}
-use borrow.Author.Rules.{rules}
 use Rattle.frames.proofs.answer.with_header.Goals as goal
 
 pub returns-then-second : goal.returns-then-second

@@ -1,6 +1,5 @@
 -- `is_question` meets its contract, by that of `starts`. Assumes nothing.
 use Rattle.frames.specs.Question.{is_question}
-use borrow.Author.Rules.{rules}
 use Rattle.frames.proofs.question.is_question.Goals as goal
 
 pub returns : goal.returns

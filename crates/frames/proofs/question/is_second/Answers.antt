@@ -1,5 +1,4 @@
 -- `is_second` meets its contract, by that of `starts`. Assumes nothing.
-use borrow.Author.Rules.{rules}
 use borrow.Author.Tests.{eq-eqb, ne_eqb}
 use Rattle.frames.specs.Question.{is_second}
 use Rattle.frames.proofs.question.is_second.Goals as goal

@@ -1,6 +1,5 @@
 -- `number_in` meets its contract, by that of `u64_at`. Assumes nothing.
 use Rattle.frames.specs.Question.{number_in}
-use borrow.Author.Rules.{rules}
 use Rattle.frames.proofs.question.number_in.Goals as goal
 
 pub returns : goal.returns

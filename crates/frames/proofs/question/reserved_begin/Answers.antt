@@ -1,6 +1,5 @@
 -- `reserved_begin` meets its contract, by that of `zeros_in`. Assumes nothing.
 use Rattle.frames.specs.Question.{reserved_b}
-use borrow.Author.Rules.{rules}
 use Rattle.frames.proofs.question.reserved_begin.Goals as goal
 
 pub returns : goal.returns

@@ -1,6 +1,5 @@
 -- `reserved_query` meets its contract, by that of `zeros_in`. Assumes nothing.
 use Rattle.frames.specs.Question.{reserved_q}
-use borrow.Author.Rules.{rules}
 use Rattle.frames.proofs.question.reserved_query.Goals as goal
 
 pub returns : goal.returns

@@ -1,6 +1,5 @@
 -- `reserved_step` meets its contract, by that of `zeros_in`. Assumes nothing.
 use Rattle.frames.specs.Question.{reserved_s}
-use borrow.Author.Rules.{rules}
 use Rattle.frames.proofs.question.reserved_step.Goals as goal
 
 pub returns : goal.returns

@@ -1,5 +1,4 @@
 -- `round_number_ok` meets its contract: by the frame's version. Assumes nothing.
-use borrow.Author.Rules.{rules}
 use Rattle.frames.specs.Question.{round_number_ok}
 use Rattle.frames.proofs.question.round_number_ok.Goals as goal
 

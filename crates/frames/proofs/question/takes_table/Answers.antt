@@ -1,6 +1,5 @@
 -- `takes_table` meets its contract, by those of its callees. Assumes nothing.
 use mathlib.Core.Path.{ap, ◌∙◌}
-use borrow.Author.Rules.{rules}
 use Rattle.levels.specs.Level.{on_table}
 use Rattle.frames.specs.Question.{takes_table}
 use Rattle.frames.proofs.question.takes_table.Goals as goal

@@ -2,7 +2,6 @@
 use mathlib.Core.Path.{ap, ◌∙◌}
 use native.Mathlib.Nat.{add-sub_cancel_left}
 use lib.ListN.{take, drop}
-use borrow.Author.Rules.{rules}
 use Rattle.frames.specs.Fields.{part, zeros}
 use Rattle.frames.proofs.question.zeros_in.Goals as goal
 

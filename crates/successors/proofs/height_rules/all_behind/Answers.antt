@@ -1,11 +1,9 @@
 use mathlib.Core.List.{List}
 use mathlib.Core.Path.{◌≡◌, sym, ◌∙◌}
-use Prim.Native.Nat.{ℕ, ◌≤◌, ◌-◌}
+use Prim.Native.Nat.{ℕ, ◌≤◌}
 use native.Mathlib.Omega.{arith}
-use borrow.Author.Rules.{rules}
-use borrow.Author.Tests.{not-true, not-false}
 use lib.ListN.{length, take, drop, get_or}
-use Rattle.weak_orders.specs.Window.{all, range, occurs}
+use Rattle.weak_orders.specs.Window.{range, occurs}
 use Rattle.weak_orders.proofs.Lists.{length-range, get_or_range}
 use Rattle.successors.proofs.Scans.{scan_passes, scan_fails, scan_ends, take_range}
 use Rattle.successors.proofs.height_rules.all_behind.Goals.{After-occurs_behind, Start}

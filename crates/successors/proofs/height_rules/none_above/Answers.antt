@@ -1,11 +1,10 @@
 use mathlib.Core.Path.{◌≡◌}
-use Prim.Native.Nat.{◌≤◌, ◌-◌}
+use Prim.Native.Nat.{◌≤◌}
 use native.Mathlib.Omega.{arith}
 use borrow.Author.Rules.{rules}
 use borrow.Author.Tests.{le-leb, lt-leb}
 use lib.Dec.{leb}
-use lib.ListN.{length, take, drop}
-use Rattle.weak_orders.specs.Window.{all}
+use lib.ListN.{length}
 use Rattle.successors.proofs.Scans.{scan_passes, scan_fails, scan_ends}
 use Rattle.successors.proofs.height_rules.none_above.Goals.{Start}
 use Rattle.successors.proofs.height_rules.none_above.Goals as goal

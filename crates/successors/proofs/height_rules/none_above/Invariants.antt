@@ -1,14 +1,10 @@
 -- `none_above` tests each symbol behind the first. The loop's invariant: the test of all of them is the test of those from i on.
 -- The measure is what is left of n. Assumes nothing.
 use mathlib.Core.Path.{◌≡◌}
-use Prim.Native.Nat.{◌≤◌, ◌-◌}
-use native.Mathlib.Omega.{arith}
-use borrow.Author.Rules.{rules}
-use borrow.Author.Tests.{le-leb, lt-leb}
+use Prim.Native.Nat.{◌-◌}
 use lib.Dec.{leb}
-use lib.ListN.{length, take, drop}
+use lib.ListN.{take, drop}
 use Rattle.weak_orders.specs.Window.{all}
-use Rattle.successors.proofs.Scans.{scan_passes, scan_fails, scan_ends}
 use Rattle.successors.proofs.height_rules.none_above.Given as goal
 
 abbrev pub invariant-loop-i : goal.invariant-loop-i

@@ -1,9 +1,8 @@
 use mathlib.Core.Path.{◌≡◌}
-use Prim.Native.Nat.{◌≤◌, ◌-◌}
+use Prim.Native.Nat.{◌≤◌}
 use native.Mathlib.Omega.{arith}
 use borrow.Author.Rules.{rules}
-use lib.ListN.{length, take, drop}
-use Rattle.weak_orders.specs.Window.{occurs}
+use lib.ListN.{length}
 use Rattle.successors.proofs.Scans.{seek_on, seek_found, seek_ends}
 use Rattle.successors.proofs.height_rules.occurs_behind.Goals.{Start}
 use Rattle.successors.proofs.height_rules.occurs_behind.Goals as goal

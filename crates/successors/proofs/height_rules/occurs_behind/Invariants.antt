@@ -1,12 +1,9 @@
 -- `occurs_behind` looks for v behind the first symbol. The loop's invariant: v occurs there just where it occurs from index i on.
 -- The measure is what is left of n. Assumes nothing.
 use mathlib.Core.Path.{◌≡◌}
-use Prim.Native.Nat.{◌≤◌, ◌-◌}
-use native.Mathlib.Omega.{arith}
-use borrow.Author.Rules.{rules}
-use lib.ListN.{length, take, drop}
+use Prim.Native.Nat.{◌-◌}
+use lib.ListN.{take, drop}
 use Rattle.weak_orders.specs.Window.{occurs}
-use Rattle.successors.proofs.Scans.{seek_on, seek_found, seek_ends}
 use Rattle.successors.proofs.height_rules.occurs_behind.Given as goal
 
 abbrev pub invariant-loop-i : goal.invariant-loop-i

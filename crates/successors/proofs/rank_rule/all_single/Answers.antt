@@ -1,12 +1,11 @@
 use mathlib.Core.Path.{◌≡◌}
-use Prim.Native.Nat.{◌≤◌, ◌-◌}
+use Prim.Native.Nat.{◌≤◌}
 use native.Mathlib.Omega.{arith}
 use borrow.Author.Rules.{rules}
 use borrow.Author.Tests.{not-true, not-false}
-use lib.ListN.{length, take, drop, get_or}
+use lib.ListN.{length, get_or}
 use mir.Val.{Fits}
 use mir.Syntax.{w8}
-use Rattle.weak_orders.specs.Window.{all}
 use Rattle.weak_orders.proofs.Parts.{at_part}
 use Rattle.successors.specs.ByTable.{single_by, passes_by}
 use Rattle.successors.proofs.Scans.{scan_passes, scan_fails, scan_ends}

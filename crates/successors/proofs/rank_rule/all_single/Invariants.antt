@@ -1,17 +1,10 @@
 -- `all_single` tests each symbol from a up to b. The loop's invariant: the test of all of them is the test of those from i on.
 -- The measure is what is left of b. Assumes nothing.
 use mathlib.Core.Path.{◌≡◌}
-use Prim.Native.Nat.{◌≤◌, ◌-◌}
-use native.Mathlib.Omega.{arith}
-use borrow.Author.Rules.{rules}
-use borrow.Author.Tests.{not-true, not-false}
-use lib.ListN.{length, take, drop, get_or}
-use mir.Val.{Fits}
-use mir.Syntax.{w8}
+use Prim.Native.Nat.{◌-◌}
+use lib.ListN.{take, drop}
 use Rattle.weak_orders.specs.Window.{all}
-use Rattle.weak_orders.proofs.Parts.{at_part}
-use Rattle.successors.specs.ByTable.{single_by, passes_by}
-use Rattle.successors.proofs.Scans.{scan_passes, scan_fails, scan_ends}
+use Rattle.successors.specs.ByTable.{passes_by}
 use Rattle.successors.proofs.rank_rule.all_single.Given as goal
 
 abbrev pub invariant-loop-i : goal.invariant-loop-i

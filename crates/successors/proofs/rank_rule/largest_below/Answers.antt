@@ -1,8 +1,5 @@
 use mathlib.Core.Path.{◌≡◌, sym, ◌∙◌}
-use Prim.Native.Nat.{◌≤◌}
 use native.Mathlib.Omega.{arith}
-use borrow.Author.Rules.{rules}
-use Rattle.successors.specs.ByTable.{largest_by}
 use Rattle.successors.proofs.Tables.{largest_by_here, largest_by-lower, largest_by_zero}
 use Rattle.successors.proofs.rank_rule.largest_below.Goals as goal
 

@@ -1,11 +1,8 @@
 -- `largest_below` goes down from v. The loop's invariant: the largest below v is the largest below p. The measure is p.
 -- Assumes nothing.
-use mathlib.Core.Path.{◌≡◌, sym, ◌∙◌}
+use mathlib.Core.Path.{◌≡◌}
 use Prim.Native.Nat.{◌≤◌}
-use native.Mathlib.Omega.{arith}
-use borrow.Author.Rules.{rules}
 use Rattle.successors.specs.ByTable.{largest_by}
-use Rattle.successors.proofs.Tables.{largest_by_here, largest_by-lower, largest_by_zero}
 use Rattle.successors.proofs.rank_rule.largest_below.Given as goal
 
 abbrev pub invariant-loop-p : goal.invariant-loop-p
