@@ -5,7 +5,6 @@ use mathlib.Core.Path.{◌≡◌, refl, sym, ap, ◌∙◌}
 use Prim.Native.Nat.{ℕ, suc, max, ◌-◌, ◌≤◌, ◌<◌}
 use native.Mathlib.Omega.{arith}
 use native.Mathlib.Decide.{dec_lt}
-use lib.ListN.{get_or}
 use borrow.Author.Tests.{not-true}
 use Rattle.weak_orders.specs.Window.{range, occurs, different, bound}
 use Rattle.weak_orders.proofs.Lists.{first_index_none, of_range, length-range, get_or_range}
