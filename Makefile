@@ -21,7 +21,7 @@ export SHEET # the shell reads it, so that a name may have spaces
 run: target/bin/round
 	@$(call watched,target/bin/round <"$$SHEET")
 
-# A program has no exit status: where it says something on standard error, the sheet is refused or the run has failed.
+# These programs end with status 0: where one says something on standard error, the sheet is refused or the run has failed.
 define watched
 { said=$$($(1) 2>&1 >&3); } 3>&1; status=$$?; \
 [ -z "$$said" ] || printf '%s\n' "$$said" >&2; \
