@@ -52,8 +52,7 @@ pub fn all_zero(s: &[u8]) -> bool
     true
 }
 
-// The two slices hold the same bytes. std's `==` reads groups of bytes through buffers of its own, which a frame's few bytes do not pay for: in
-// `wko_exchange` they took 400 bytes of stack.
+// The two slices hold the same bytes. std's `==` reads groups of bytes through buffers of its own, which took 190 bytes of stack in `wko_exchange`.
 pub fn same(a: &[u8], b: &[u8]) -> bool
     ensures { result ≡ same_bytes a.now b.now }
 {
