@@ -1,5 +1,4 @@
 -- `answer`: the two cases. Assumes nothing.
-use borrow.Author.Rules.{rules}
 use Rattle.wko.proofs.answer.Goals as goal
 
 pub returns-in-Refused : goal.returns-in-Refused

@@ -2,7 +2,6 @@
 use mathlib.Core.Path.{◌∙◌}
 use native.Mathlib.Omega.{arith}
 use Rattle.wko.proofs.Cases.{fill_slice, fill_other}
-use borrow.Author.Rules.{rules}
 use Rattle.wko.proofs.filling_of.Goals as goal
 
 pub returns-then-pattern-n : goal.returns-then-pattern-n

@@ -2,8 +2,8 @@
 use mathlib.Core.Path.{◌≡◌, sym, ◌∙◌}
 use Prim.Native.Nat.{◌≤◌}
 use native.Mathlib.Omega.{arith}
-use lib.ListN.{length, take}
-use lib.Seq.{take-length, length-take-le}
+use lib.ListN.{length}
+use lib.Seq.{length-take-le}
 use Rattle.refusals.specs.declared.Verdict.TheVariants.{Accepted}
 use Rattle.wko.specs.Calls.{with_room, written, delivered, number_given}
 use Rattle.wko.proofs.Cases.{room_accepted}

@@ -1,5 +1,4 @@
 -- `number_bytes`: the two cases. Assumes nothing.
-use borrow.Author.Rules.{rules}
 use Rattle.wko.proofs.number_bytes.Goals as goal
 
 pub returns-in-Number : goal.returns-in-Number

@@ -1,8 +1,6 @@
 -- `rotation_numbers`: the two cases, for the slice's window. Assumes nothing.
 use mathlib.Core.Path.{◌≡◌, sym, ap, ◌∙◌}
-use Prim.Native.Nat.{◌≤◌}
 use native.Mathlib.Omega.{arith}
-use borrow.Author.Rules.{rules}
 use Rattle.successors.specs.RotationUnder.{rotation_answer}
 use Rattle.successors.proofs.RotationsUnder.{found_bounds}
 use Rattle.wko.specs.Calls.{rotation_numbers}

@@ -1,6 +1,5 @@
 -- `rule_number`: the rule, or 0. Assumes nothing.
 use borrow.Author.Tests.{lt-ltb, le-ltb}
-use borrow.Author.Rules.{rules}
 use Rattle.wko.proofs.rule_number.Goals as goal
 
 pub returns-then-rule-lt256 : goal.returns-then-rule-lt256

@@ -1,6 +1,5 @@
 -- `told_first`: by the number. Assumes nothing.
 use Rattle.wko.specs.Calls.{told_first}
-use borrow.Author.Rules.{rules}
 use Rattle.wko.proofs.told_first.Goals as goal
 
 pub returns : goal.returns

@@ -1,9 +1,7 @@
 -- `with_room`: enough room, or a short buffer told in its turn. Assumes nothing.
 use mathlib.Core.Path.{sym, ◌∙◌}
 use native.Mathlib.Omega.{arith}
-use borrow.Author.Tests.{not-true, not-false}
 use Rattle.wko.proofs.Cases.{room_enough, room_short, room_cause}
-use borrow.Author.Rules.{rules}
 use Rattle.wko.proofs.with_room.Goals as goal
 
 pub returns-then-need-room : goal.returns-then-need-room

@@ -1,7 +1,6 @@
 -- `wko_count`: the count, given. Assumes nothing.
 use mathlib.Core.Path.{ap, ◌∙◌}
 use Rattle.wko.specs.Calls.{number_given, count_call}
-use borrow.Author.Rules.{rules}
 use Rattle.wko.proofs.wko_count.Goals as goal
 
 pub returns : goal.returns

@@ -2,7 +2,6 @@
 use mathlib.Core.Path.{ap, sym, ◌∙◌}
 use Rattle.wko.specs.Calls.{window_given, fill_call}
 use Rattle.wko.proofs.Cases.{fill_most}
-use borrow.Author.Rules.{rules}
 use Rattle.wko.proofs.wko_fill.Goals as goal
 
 pub give-requires : goal.give-requires

@@ -3,7 +3,6 @@ use mathlib.Core.Path.{◌≡◌, ap, sym, ◌∙◌}
 use Rattle.weak_orders.specs.Converted.{height_to_rank}
 use Rattle.wko.specs.Calls.{window_given, height_to_rank_call}
 use Rattle.wko.proofs.Cases.{height_slice, height_most}
-use borrow.Author.Rules.{rules}
 use Rattle.wko.proofs.wko_height_to_rank.Goals as goal
 
 pub give-requires : goal.give-requires

@@ -1,5 +1,4 @@
 -- `wko_next_symbol`: the next one of the two. Assumes nothing.
-use borrow.Author.Rules.{rules}
 use Rattle.wko.specs.Calls.{next_symbol_call}
 use Rattle.wko.proofs.wko_next_symbol.Goals as goal
 

@@ -1,6 +1,5 @@
 -- `wko_period`: the period of the two numbers. Assumes nothing.
 use mathlib.Core.Path.{ap}
-use borrow.Author.Rules.{rules}
 use Rattle.wko.specs.Calls.{period_call}
 use Rattle.wko.specs.declared.RotationNumbers.{RotationNumbers}
 use Rattle.wko.proofs.wko_period.Goals as goal

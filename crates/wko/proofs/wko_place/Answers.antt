@@ -3,7 +3,6 @@ use mathlib.Core.Path.{◌≡◌, ap, ◌∙◌}
 use Rattle.ranking.specs.Answers.{placed}
 use Rattle.wko.specs.Calls.{number_given, place_call}
 use Rattle.wko.proofs.Cases.{place_slice}
-use borrow.Author.Rules.{rules}
 use Rattle.wko.proofs.wko_place.Goals as goal
 
 pub returns : goal.returns

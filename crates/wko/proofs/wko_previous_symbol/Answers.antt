@@ -1,5 +1,4 @@
 -- `wko_previous_symbol`: the previous one of the two. Assumes nothing.
-use borrow.Author.Rules.{rules}
 use Rattle.wko.specs.Calls.{previous_symbol_call}
 use Rattle.wko.proofs.wko_previous_symbol.Goals as goal
 

@@ -3,7 +3,6 @@ use mathlib.Core.Path.{◌≡◌, ap, sym, ◌∙◌}
 use Rattle.weak_orders.specs.Converted.{rank_to_height}
 use Rattle.wko.specs.Calls.{window_given, rank_to_height_call}
 use Rattle.wko.proofs.Cases.{rank_slice, rank_most}
-use borrow.Author.Rules.{rules}
 use Rattle.wko.proofs.wko_rank_to_height.Goals as goal
 
 pub give-requires : goal.give-requires

@@ -1,6 +1,5 @@
 -- `wko_rotation_start`: the start of the two numbers. Assumes nothing.
 use mathlib.Core.Path.{ap}
-use borrow.Author.Rules.{rules}
 use Rattle.wko.specs.Calls.{rotation_start_call}
 use Rattle.wko.specs.declared.RotationNumbers.{RotationNumbers}
 use Rattle.wko.proofs.wko_rotation_start.Goals as goal

@@ -1,7 +1,6 @@
 -- `wko_exchange`: what the frame call gives, with the reply as a number. Assumes nothing.
 use mathlib.Core.Path.{ap}
 use Rattle.wko.specs.SessionCalls.{for_c, exchange_call}
-use borrow.Author.Rules.{rules}
 use Rattle.wko.proofs.session.wko_exchange.Goals as goal
 
 pub returns : goal.returns

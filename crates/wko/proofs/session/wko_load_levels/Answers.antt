@@ -1,6 +1,5 @@
 -- `wko_load_levels`: what handler's call gives, with the reply as a number. Assumes nothing.
 use mathlib.Core.Path.{ap}
-use borrow.Author.Rules.{rules}
 use Rattle.wko.specs.SessionCalls.{loaded_for_c, load_call}
 use Rattle.wko.proofs.session.wko_load_levels.Goals as goal
 
