@@ -4,7 +4,7 @@ use Rattle.rotations.specs.Order.{lex_le}
 use Rattle.ranking.specs.Dictionary.{select, height_windows}
 use Rattle.filling.specs.Pattern.{agrees, Filling}
 
--- the first in dictionary order of the weak orders of n that agree with p: `heightWindows` lists them all in this order, in which places are
+-- the first in dictionary order of the weak orders of n that agree with p: `height_windows` lists them all in this order, in which places are
 -- counted too. [] where none agrees.
 unfoldable pub earliest : ℕ → List ℕ → List ℕ
 unfolding select agrees height_windows

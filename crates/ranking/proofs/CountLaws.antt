@@ -1,4 +1,4 @@
--- Laws of the numbers: `ways`, `waysFrom`, L(n, k) and a(n). Assumes nothing.
+-- Laws of the numbers: `ways`, `ways_from`, L(n, k) and a(n). Assumes nothing.
 use mathlib.Core.Logic.{◌≢◌}
 use mathlib.Core.Path.{◌≡◌, refl, sym, ap, ap₂, ◌∙◌}
 use Prim.Native.Nat.{ℕ, zero, suc, pred, ◌+◌, ◌-◌, ◌*◌, ◌≤◌, ◌<◌, zero-le, suc-le-suc}

@@ -1,4 +1,4 @@
--- A record is an event, and a run of records a list of events.
+-- A record is an event, and a run of records a list of events. Assumes nothing.
 use Rattle.std.proofs.Common.{Bool, true, false, List, [], ◌∷◌, ◌++◌, ◌≡◌, refl, ap, ◌∙◌, ℕ, ◌+◌, ◌≤◌, arith, length-append}
 use Rattle.stepper.specs.declared.session.Session.{Session}
 use Rattle.stepper.specs.Exchange.{fresh}

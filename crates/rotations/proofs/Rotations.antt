@@ -193,7 +193,7 @@ module _ {le : List ℕ → List ℕ → Bool} (order : TotalOrder le) (x : ℕ)
         first = λ j lt low. (index j lt ((says (rotation w j)).of low)).0;
       }
 
--- In the two directions of dictionary order: the least and the greatest rotation, `start` and `startGreatest`.
+-- In the two directions of dictionary order: the least and the greatest rotation, `start` and `start_greatest`.
 pub least : (x : ℕ) (b : List ℕ) → (m : List ℕ) × (x ∷ b ⟳ m) × ((v : List ℕ) → x ∷ b ⟳ v → lex_le m v ≡ true)
 least = extreme upward
 

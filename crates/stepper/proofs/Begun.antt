@@ -70,7 +70,7 @@ pub begin_judged : (s : Session) →
 unfolding begin_reply reply_if window_ok
 begin_judged s = judged (is_length s.n) (is_rule s.rule) (window_ok s.n s.rule s.window) (setting_ok s.n s.setting)
 
--- What `hasBegun` says of a session.
+-- What `has_begun` says of a session.
 pub record Begun (s : Session) : Type 0 where
   pub flag : s.begun ≡ 1
   pub round : RoundOk s.n s.rule s.window s.setting

@@ -21,7 +21,7 @@ use Rattle.stepper.specs.declared.session.Session.{Session}
 use Rattle.stepper.specs.Exchange.{in_second, is_numbered, in_force, begun_by, again_if, is_again}
 use Rattle.stepper.proofs.Begun.{Begun, says_begun}
 
--- What `isAgain` says of a session and a frame.
+-- What `is_again` says of a session and a frame.
 pub record Again (s : Session) (f : List ℕ) : Type 0 where
   pub begun : Begun s
   pub version : s.version ≡ 2

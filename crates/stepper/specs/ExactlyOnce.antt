@@ -1,5 +1,5 @@
 -- Each step exactly once, whatever is sent again, damaged or lost, and whatever level files are loaded in between (document 01, "Two
--- benches", demand 3; document 02, Papers 4 and 6), over `exchange` and `loadLevels`. Document 01's bench A is the reference session here, bench B
+-- benches", demand 3; document 02, Papers 4 and 6), over `exchange` and `load_levels`. Document 01's bench A is the reference session here, bench B
 -- the retried one.
 use Rattle.std.specs.Prelude.{Bool, true, false, cond, not, ◌&&◌, ◌||◌, List, [], ◌∷◌, ◌++◌, map, ◌⊎◌, ◌≡◌, ℕ, zero, suc, ◌+◌, ◌≤◌, ◌<◌, leb, ltb, eqb, ℤ, length, take, drop, replicate}
 use Rattle.std.proofs.Math.Option.{Option, none, some}

@@ -8,7 +8,7 @@ use Rattle.stepper.specs.Exchange.{exchange}
 use Rattle.stepper.specs.ExactlyOnce.{round_of, start_of, window_after, numbers_after}
 use Rattle.stepper.specs.Example.{beginning}
 
--- W_1 … W_a(n) of a begin frame: what its session holds after its steps, in order (`firsts-reference` of `ExactlyOnce`)
+-- W_1 … W_a(n) of a begin frame: what its session holds after its steps, in order (`firsts_reference` of `ExactlyOnce`)
 unfoldable pub windows_of : List ℕ → List (List ℕ)
 unfolding round_of window_after numbers_after
 windows_of g = map (window_after g) (numbers_after 0 (round_of g))

@@ -18,7 +18,7 @@ unfoldable pub scan_by : ℕ → List ℕ → List ℕ → ℕ → Bool
 unfolding all passes_by before
 scan_by j t w p = all (passes_by t p) (before j w)
 
--- `largestBelow`, read off the table: the largest number below v that it has, and 0 where there is none
+-- `largest_below`, read off the table: the largest number below v that it has, and 0 where there is none
 unfoldable pub largest_by : List ℕ → ℕ → ℕ
 largest_by t zero = 0
 largest_by t (suc v) = cond (eqb (get_or t v 0) 0) (largest_by t v) v

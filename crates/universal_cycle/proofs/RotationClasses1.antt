@@ -103,7 +103,7 @@ plain_exit x b h pl s m ne =
     let (d, c) = to_front w y (rank_next w h 1 s (rank_one w h s m) m (omega (arith, rank_positive w h s m))) in
     (y, d, c, (says_exit1 y d).of (inl (record { plain = plain_rotated c pl; is = omega (arith, num_rotated c 1) })))
 
--- The converse of `case3-shape`.
+-- The converse of `case3_shape`.
 shape_case3 : (x : ℕ) (b k r : List ℕ) → Rank (x ∷ b) → ¬ Single (x ∷ b) x → Shape x b k r → Case3 x b
 shape_case3 x b k r h n S = record {
   not_plain = λ p. n (p x here);
