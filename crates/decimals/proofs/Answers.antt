@@ -1,61 +1,43 @@
 -- The readers' answers, and what they tell of what was found. Assumes nothing.
 use mathlib.Core.Bool.{true, false, ◌&&◌, false≢true}
 use mathlib.Core.List.{List}
-use mathlib.Core.Path.{◌≡◌, refl, sym, ◌∙◌}
+use mathlib.Core.Path.{◌≡◌, refl, sym, ap, ◌∙◌}
 use Prim.Native.Nat.{ℕ, zero, suc, ◌+◌, ◌-◌, ◌*◌, ◌≤◌, ◌<◌, ◌^◌}
 use native.Mathlib.Nat.{pow-le-pow_right}
 use native.Mathlib.Decide.{dec_lt}
 use native.Mathlib.Numerals.{add-one, sub-one}
 use native.Mathlib.Omega.{arith}
 use lib.Dec.{leb, ltb}
-use lib.IntN.{ℤ, pos, negsuc, ◌-ℤ◌}
+use lib.IntN.{negsuc}
 use lib.ListN.{length, take, drop}
-use borrow.Author.Tests.{lt-ltb, lt-leb, le-leb}
-use Rattle.weak_orders.specs.Window.{padded}
+use borrow.Author.Tests.{lt-leb, le-leb}
 use Rattle.weak_orders.proofs.Tests.{by_test}
 use Rattle.decimals.specs.Text.{decimal}
 use Rattle.decimals.specs.Reading.{Found, found, missing, Reader, further, next, both, begins_with, behind, starts_with, closed}
-use Rattle.decimals.specs.Reading.{ended, run, value, well_written, number, negative, positive, signed_number, numbers}
-use Rattle.decimals.specs.Held.{decimal_of, signed_of, decimals_of}
-use Rattle.decimals.specs.declared.Decimals.{Decimals}
-use Rattle.decimals.specs.declared.Decimal.TheVariants.{Number, NoNumber}
-use Rattle.decimals.specs.declared.SignedDecimal.TheVariants.{Number as SignedNumber, NoNumber as NoSigned}
+use Rattle.decimals.specs.Reading.{ended, run, value, well_written, number, negative, positive, signed_number}
+use Rattle.std.specs.Prelude.{Some, None}
+use Rattle.std.proofs.lemmas.Option.{none-some, same_Some}
+use Rattle.decimals.specs.Held.{taken_as, taken}
+use Rattle.decimals.specs.declared.Taken.{Taken}
 use Rattle.decimals.proofs.Digits.{decimal-digits, decimal-value, value-below}
 use Rattle.decimals.proofs.Readers.{takes_within, reads_number}
 use Rattle.decimals.proofs.Cursors.{starts_past}
 
 -- ---- from an answer to what was found
 
-pub found_number : {v k : ℕ} (f : Found ℕ) → decimal_of f ≡ Number v k → f ≡ found v k
-unfolding decimal_of
-found_number (found u m) e = cc
-found_number missing e = absurd (let z : ◌≡◌ {A = ℕ} 0 1 = cc in omega arith)
+module _ {A B : Type 0} (f : A → B) where
+  pub found_as : {t : Taken B} (r : Found A) → Some t ≡ taken_as f r → (x : A) × (r ≡ found x t.len) × (t.value ≡ f x)
+  found_as {t} (found x k) e =
+      let q = same_Some _ _ e in
+      (x, ap (λ u. found x u) (sym (ap (λ (u : Taken B). u.len) q)), ap (λ (u : Taken B). u.value) q)
+  found_as missing e = absurd (none-some _ (sym e))
 
-pub no_number : (f : Found ℕ) → decimal_of f ≡ NoNumber → f ≡ missing
-unfolding decimal_of
-no_number (found u m) e = absurd (let z : ◌≡◌ {A = ℕ} 0 1 = cc in omega arith)
-no_number missing e = refl
+  pub not_as : (r : Found A) → None ≡ taken_as f r → r ≡ missing
+  not_as (found x k) e = absurd (none-some _ e)
+  not_as missing e = refl
 
-pub found_signed : {v : ℤ} {k : ℕ} (f : Found ℤ) → signed_of f ≡ SignedNumber v k → f ≡ found v k
-unfolding signed_of
-found_signed (found u m) e = cc
-found_signed missing e = absurd (let z : ◌≡◌ {A = ℕ} 0 1 = cc in omega arith)
-
-pub no_signed : (f : Found ℤ) → signed_of f ≡ NoSigned → f ≡ missing
-unfolding signed_of
-no_signed (found u m) e = absurd (let z : ◌≡◌ {A = ℕ} 0 1 = cc in omega arith)
-no_signed missing e = refl
-
-pub found_decimals : (d : Decimals) (f : Found (List ℕ)) → d ≡ decimals_of f → d.found ≡ true →
-    (l : List ℕ) × (f ≡ found l d.len) × (d.values ≡ padded l) × (d.count ≡ length l)
-unfolding decimals_of
-found_decimals d (found l k) e t = (l, rw e, rw e, rw e)
-found_decimals d missing e t = absurd (false≢true (rw e at t))
-
-pub no_decimals : (d : Decimals) (f : Found (List ℕ)) → d ≡ decimals_of f → d.found ≡ false → f ≡ missing
-unfolding decimals_of
-no_decimals d (found l k) e t = absurd (false≢true (sym (rw e at t)))
-no_decimals d missing e t = refl
+pub found_taken : {A : Type 0} {t : Taken A} (r : Found A) → Some t ≡ taken r → r ≡ found t.value t.len
+found_taken {A} {t} r e = let (x, q, v) = found_as (λ (x : A). x) {t = t} r e in rw v q
 
 -- ---- one decimal
 
@@ -92,10 +74,6 @@ pub number_bounds : (s : List ℕ) {x k : ℕ} → number s ≡ found x k → (x
 number_bounds s {x} {k} e = let (t, o) = reads_number.sound s x k e in (short_below x o, takes_within t, omega (arith, t.size))
 
 -- ---- a decimal that may be below zero
-
-pub minus : (v : ℕ) → 0 < v → pos 0 -ℤ pos v ≡ negsuc (v - 1)
-minus zero h = absurd (omega arith)
-minus (suc v) h = rw (lt-ltb 0 (suc v) h, sub-one)
 
 pub negative_found : (v k : ℕ) → 0 < v → negative (found v k) ≡ found (negsuc (v - 1)) (k + 1)
 unfolding negative
@@ -140,34 +118,39 @@ module _ {A B : Type 0} (t : List ℕ) (f : A → B) (p : Reader A) (s : List �
 
 -- ---- a field, ended by a byte
 
-module _ {A : Type 0} (p : Reader A) (b : ℕ) (s : List ℕ) where
-  pub ended-missing : p s ≡ missing → ended p b s ≡ missing
+-- what was read of r, which is the text s, and the byte behind it
+module _ {A B : Type 0} (f : A → B) (p : Reader A) (b : ℕ) {r s : List ℕ} (here : r ≡ s) where
+  pub field-missing : None ≡ taken_as f (p r) → ended p b s ≡ missing
   unfolding ended closed
-  ended-missing e = rw e
+  field-missing e = rw (← here, not_as f (p r) e)
 
-  module _ {x : A} {k : ℕ} (e : p s ≡ found x k) where
-    pub ended-other : starts_with b (drop k s) ≡ false → ended p b s ≡ missing
+  module _ {u : Taken B} (e : Some u ≡ taken_as f (p r)) where
+    pub field-other : None ≡ taken (closed b (found u.value u.len) r) → ended p b s ≡ missing
     unfolding ended closed
-    ended-other t = rw (e, t)
+    field-other n =
+        let (x, q, _) = found_as f {t = u} (p r) e in
+        rw (← here, q) (by_test (starts_with b (drop u.len r)) (λ t. absurd (none-some _ (rw t at n))) (λ t. rw t))
 
-    pub ended_here : starts_with b (drop k s) ≡ true → ended p b s ≡ found x (k + 1)
+    pub field_found : {t : Taken B} → Some t ≡ taken (closed b (found u.value u.len) r) → (x : A) × (ended p b s ≡ found x t.len) × (t.value ≡ f x)
     unfolding ended closed
-    ended_here t = rw (e, t, add-one)
+    field_found {t} n = let (x, q, v) = found_as f {t = u} (p r) e in go x t q v n
+      where
+        go : (x : A) (t : Taken B) → p r ≡ found x u.len → u.value ≡ f x → Some t ≡ taken (closed b (found u.value u.len) r) →
+            (x : A) × (ended p b s ≡ found x t.len) × (t.value ≡ f x)
+        go x t q v n = by_test (starts_with b (drop u.len r))
+            (λ c.
+            let m = same_Some _ _ (rw c at n) in
+            let k : suc u.len ≡ t.len = sym (ap (λ (t : Taken B). t.len) m) in
+            (x, rw (← here, q, c) (ap (found x) k), ap (λ (t : Taken B). t.value) m ∙ v))
+            (λ c. absurd (none-some _ (sym (rw c at n))))
+
+-- the same, where the code holds it as it is
+pub field_taken : {A : Type 0} (p : Reader A) (b : ℕ) {r s : List ℕ} → r ≡ s → {u : Taken A} → Some u ≡ taken (p r) →
+    {t : Taken A} → Some t ≡ taken (closed b (found u.value u.len) r) → ended p b s ≡ found t.value t.len
+field_taken p b here {u} e {t} n = let (x, q, v) = field_found (λ x. x) p b here {u = u} e {t = t} n in rw v q
 
 pub starts_within : (b : ℕ) (s : List ℕ) (k : ℕ) → starts_with b (drop k s) ≡ true → k < length s
 starts_within b s k t = elim (dec_lt k (length s)) [
   | yes l ↦ l
   | no l ↦ absurd (false≢true (sym (starts_past b s k (omega arith)) ∙ t))
 ]
-
--- a list of decimals with its end
-module _ (d : Decimals) (s : List ℕ) (b : ℕ) (e : d ≡ decimals_of (numbers 16 s)) (t : d.found ≡ true) where
-  pub decimals_other : starts_with b (drop d.len s) ≡ false → ended (numbers 16) b s ≡ missing
-  decimals_other c = let (l, f, _, _) = found_decimals d (numbers 16 s) e t in ended-other (numbers 16) b s f c
-
-  pub decimals_here : starts_with b (drop d.len s) ≡ true →
-      record { found = d.found; values = d.values; count = d.count; len = d.len + 1 } ≡ decimals_of (ended (numbers 16) b s)
-  unfolding decimals_of
-  decimals_here c =
-      let (l, f, v, k) = found_decimals d (numbers 16 s) e t in
-      rw (ended_here (numbers 16) b s f c, ← v, ← k, t)

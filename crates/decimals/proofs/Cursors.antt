@@ -1,17 +1,24 @@
 -- Readers at an index of a slice: what they see there, one byte at a time. Assumes nothing.
 use mathlib.Core.Bool.{true, false}
-use mathlib.Core.List.{List}
-use mathlib.Core.Path.{◌≡◌, ap}
+use mathlib.Core.List.{List, [], ◌∷◌}
+use mathlib.Core.Path.{◌≡◌, refl, sym, ap}
 use Prim.Native.Nat.{ℕ, zero, suc, ◌+◌, ◌-◌, ◌*◌, ◌^◌, ◌≤◌, ◌<◌}
 use native.Mathlib.Nat.{pow-le-pow_right}
 use native.Mathlib.Numerals.{add-one}
 use native.Mathlib.Omega.{arith}
-use lib.Dec.{eqb}
+use Rattle.std.specs.List.{take_while}
+use Rattle.std.proofs.lemmas.List.Sums.{take_while-cons}
+use Rattle.std.specs.Prelude.{Option, Some, None}
+use Rattle.std.specs.Option.{is_some, unwrap_or, option_map, option_eq}
+use denote.Ref.{Bor}
+use borrow.Author.Tests.{ltb-true, ltb-false}
+use lib.Dec.{ltb, eqb}
 use lib.ListN.{length, get_or, take, drop, length-take, length-drop, drop_of_length-le}
 use lib.Seq.{drop-cons, take-suc, take_all, length-take-le}
 use Rattle.weak_orders.specs.Says.{Says}
-use Rattle.weak_orders.proofs.Tests.{says_no}
-use Rattle.frames.proofs.ByteTests.{says_same_bytes}
+use Rattle.weak_orders.proofs.Tests.{says_no, by_test}
+use lib.Pointwise.{pointwise}
+use Rattle.frames.proofs.ByteTests.{pointwise_same_bytes, says_same_bytes}
 use Rattle.decimals.specs.Reading.{begins_with, starts_with, is_digit, run, Digits, none, more, value}
 use Rattle.decimals.proofs.Digits.{value_append, value-below}
 
@@ -21,6 +28,10 @@ module _ (t s : List ℕ) where
   pub says_begins : Says (begins_with t s) (take (length t) s ≡ t)
   unfolding begins_with
   says_begins = says_same_bytes (take (length t) s) t
+
+  pub pointwise_begins : pointwise eqb (take (length t) s) t ≡ begins_with t s
+  unfolding begins_with
+  pointwise_begins = pointwise_same_bytes (take (length t) s) t
 
   pub begins_long : begins_with t s ≡ true → length t ≤ length s
   begins_long e = omega (arith, ap length (says_begins.to e), length-take (length t) s)
@@ -38,18 +49,11 @@ pub starts_at : (b : ℕ) (s : List ℕ) (at : ℕ) → at < length s → starts
 unfolding starts_with
 starts_at b s at h = rw (drop-cons s at 0 h)
 
-module _ (s : List ℕ) (i : ℕ) where
-  pub run_end : length s ≤ i → run (drop i s) ≡ 0
-  unfolding run
-  run_end h = rw (drop_of_length-le s h)
-
-  pub run_stop : i < length s → is_digit (get_or s i 0) ≡ false → run (drop i s) ≡ 0
-  unfolding run
-  run_stop h e = rw (drop-cons s i 0 h, e)
-
-  pub run_on : i < length s → is_digit (get_or s i 0) ≡ true → run (drop i s) ≡ suc (run (drop (i + 1) s))
-  unfolding run
-  run_on h e = rw (drop-cons s i 0 h, e, add-one)
+-- the run of digits, as the digits from the front on
+pub run_count : (s : List ℕ) → length (take_while is_digit s) ≡ run s
+unfolding run
+run_count [] = refl
+run_count (b ∷ s) = rw take_while-cons (by_test (is_digit b) (λ e. rw e (ap suc (run_count s))) (λ e. rw e))
 
 digits-take : (i : ℕ) {s : List ℕ} → Digits s → Digits (take i s)
 digits-take zero d = none
@@ -76,3 +80,10 @@ value_room s i d h l =
 -- the part of a slice from k on
 pub part_from : (s : List ℕ) (k : ℕ) → take (length s - k) (drop k s) ≡ drop k s
 part_from s k = take_all (length s - k) (drop k s) (omega (arith, length-drop k s))
+
+-- the byte that is looked up
+pub starts_looked : (s : List ℕ) (at : ℕ) (o : Option (Bor ℕ)) (t : Bor ℕ) → is_some o ≡ ltb at (length s) →
+    unwrap_or (option_map (λ (x : Bor ℕ). x.now) o) 0 ≡ get_or s at 0 →
+    option_eq (λ (x y : Bor ℕ). eqb x.now y.now) o (Some t) ≡ starts_with t.now (drop at s)
+starts_looked s at None t h g = sym (starts_past t.now s at (ltb-false at (length s) (sym h)))
+starts_looked s at (Some x) t h g = rw (starts_at t.now s at (ltb-true at (length s) (sym h)), g)

@@ -10,7 +10,8 @@ use lib.Seq.{drop-drop, length-take-le, take_all, take_at, take-suc-set, get_or_
 use Rattle.weak_orders.specs.Window.{padded}
 use Rattle.weak_orders.proofs.Padded.{padded_nil, padded-next}
 use Rattle.decimals.specs.Reading.{Found, found, missing, further, starts_with, number, comma_then, numbers}
-use Rattle.decimals.specs.Held.{decimals_of}
+use Rattle.std.specs.Prelude.{Some}
+use Rattle.decimals.specs.Held.{taken_as, numbers_of}
 use Rattle.decimals.proofs.Answers.{starts_within}
 
 -- what is found k bytes further on, with vs before it
@@ -70,8 +71,8 @@ module _ (s values : List ℕ) (count at : ℕ) (g : Gathered s values count at)
 
     -- no comma behind it
     pub gathered_last : starts_with 44 (drop (at + k) s) ≡ false →
-        decimals_of (numbers 16 s) ≡ record { found = true; values = set values count v; count = count + 1; len = at + k }
-    unfolding comma_then after decimals_of
+        taken_as numbers_of (numbers 16 s) ≡ Some (record { value = record { values = set values count v; count = count + 1 }; len = at + k })
+    unfolding comma_then after
     gathered_last c =
         let here : starts_with 44 (drop k (drop at s)) ≡ false = rw drop-drop c in
         let all : numbers 16 s ≡ found (take count values ++ (v ∷ [])) (at + k) = rw (e, here) at next in

@@ -1,22 +1,18 @@
 -- What the readers answer, for what they find.
-use Rattle.std.specs.Prelude.{true, false, List, ℕ, ℤ, length, replicate}
+use Rattle.std.specs.Prelude.{List, ℕ, length, Option, Some, None}
 use Rattle.weak_orders.specs.Window.{padded}
 use Rattle.decimals.specs.Reading.{Found, found, missing}
-use Rattle.decimals.specs.declared.Decimal.{Decimal}
-use Rattle.decimals.specs.declared.Decimal.TheVariants.{Number, NoNumber}
-use Rattle.decimals.specs.declared.SignedDecimal.{SignedDecimal}
-use Rattle.decimals.specs.declared.SignedDecimal.TheVariants.{Number as SignedNumber, NoNumber as NoSigned}
-use Rattle.decimals.specs.declared.Decimals.{Decimals}
+use Rattle.decimals.specs.declared.Taken.{Taken}
+use Rattle.decimals.specs.declared.NumberList.{NumberList}
 
-unfoldable pub decimal_of : Found ℕ → Decimal
-decimal_of (found v k) = Number v k
-decimal_of missing = NoNumber
+-- what was found, held as another value
+abbrev pub taken_as : {A B : Type 0} → (A → B) → Found A → Option (Taken B)
+taken_as f (found x k) = Some (record { value = f x; len = k })
+taken_as f missing = None
 
-unfoldable pub signed_of : Found ℤ → SignedDecimal
-signed_of (found z k) = SignedNumber z k
-signed_of missing = NoSigned
+abbrev pub taken : {A : Type 0} → Found A → Option (Taken A)
+taken f = taken_as (λ x. x) f
 
--- the decimals in an array of sixteen with zeros behind; where there are none, all zeros
-unfoldable pub decimals_of : Found (List ℕ) → Decimals
-decimals_of (found l k) = record { found = true; values = padded l; count = length l; len = k }
-decimals_of missing = record { found = false; values = replicate 16 0; count = 0; len = 0 }
+-- decimals in an array of sixteen, with zeros behind
+abbrev pub numbers_of : List ℕ → NumberList
+numbers_of l = record { values = padded l; count = length l }

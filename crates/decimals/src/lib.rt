@@ -2,72 +2,60 @@
 // many bytes it took. They are the only ones in the project; lines are read in sheets and in level_files.
 #![tactic(auto)]
 
-ghost use Rattle.std.specs.Prelude.{◌≡◌, ◌-◌, ◌≤◌, ◌<◌, pos, negsuc, length, drop};
-ghost use Rattle.decimals.specs.Reading.{missing, begins_with, starts_with, is_digit, run, Digits, value, ended, number, negative};
+ghost use Rattle.std.specs.Prelude.{◌≡◌, ◌≤◌, ◌<◌, length, drop};
+ghost use Rattle.std.specs.List.{take_while};
+ghost use Rattle.decimals.specs.Reading.{found, closed, begins_with, starts_with, is_digit, Digits, value, number, negative};
 ghost use Rattle.decimals.specs.Reading.{signed_number, numbers};
-ghost use Rattle.decimals.specs.Held.{decimal_of, signed_of, decimals_of};
+ghost use Rattle.decimals.specs.Held.{taken, taken_as, numbers_of};
 
-// A decimal, and how many bytes it takes.
-#[derive(Clone, Copy)]
-pub enum Decimal {
-    Number { value: u32, len: usize },
-    NoNumber,
+// What was read at the start of a slice, and how many bytes it takes.
+#[derive(Clone, Copy, Debug, PartialEq, Eq)]
+pub struct Taken<T> {
+    pub value: T,
+    pub len: usize,
 }
 
-// A decimal that may be below zero.
-#[derive(Clone, Copy)]
-pub enum SignedDecimal {
-    Number { value: i32, len: usize },
-    NoNumber,
-}
-
-// Up to sixteen decimals joined by commas. An enum cannot hold the array.
-#[derive(Clone, Copy)]
-pub struct Decimals {
-    pub found: bool,
+// One to sixteen decimals, of which the first `count` values are.
+#[derive(Clone, Copy, Debug, PartialEq, Eq)]
+pub struct NumberList {
     pub values: [u32; 16],
     pub count: usize,
-    pub len: usize,
+}
+
+impl<T: Copy> Taken<T> {
+    // The same with the byte `end`, where that comes right after it in the slice.
+    pub fn ended(self, s: &[u8], end: u8) -> Option<Taken<T>>
+        ensures { result ≡ taken (closed end (found self.value self.len) s.now) }
+    {
+        if !starts_with(s, self.len, end) {
+            return None;
+        }
+        Some(Taken {
+            value: self.value,
+            len: self.len + 1,
+        })
+    }
 }
 
 // The text begins with another one.
 pub fn begins_with(s: &[u8], t: &[u8]) -> bool
     ensures { result ≡ begins_with t.now s.now }
 {
-    if s.len() < t.len() {
-        return false;
-    }
-    &s[..t.len()] == t
+    s.starts_with(t)
 }
 
 // The byte at an index is b.
 pub fn starts_with(s: &[u8], at: usize, b: u8) -> bool
     ensures { result ≡ starts_with b (drop at s.now) }
 {
-    if s.len() <= at {
-        return false;
-    }
-    s[at] == b
-}
-
-fn is_digit(b: u8) -> bool
-    ensures { result ≡ is_digit b }
-{
-    (48 <= b) & (b <= 57)
+    s.get(at) == Some(&b)
 }
 
 // How many digits the slice starts with.
 fn run(s: &[u8]) -> usize
-    ensures { result ≡ run s.now }
+    ensures { result ≡ length (take_while is_digit s.now) }
 {
-    let mut i = 0;
-    while i < s.len() {
-        if !is_digit(s[i]) {
-            return i;
-        }
-        i += 1;
-    }
-    i
+    s.iter().take_while(|b| b.is_ascii_digit()).count()
 }
 
 // The number that at most six digits stand for.
@@ -75,161 +63,80 @@ fn value(s: &[u8]) -> u32
     requires { Digits s.now × (length s.now ≤ 6) }
     ensures { result ≡ value 0 s.now }
 {
-    let mut v: u32 = 0;
-    let mut i = 0;
-    while i < s.len() {
-        v = v * 10 + (s[i] - 48) as u32;
-        i += 1;
+    let mut v = 0;
+    for b in s {
+        v = v * 10 + u32::from(*b - b'0');
     }
     v
 }
 
 // A decimal of one to six digits without a leading zero.
-pub fn number(s: &[u8]) -> Decimal
-    ensures { result ≡ decimal_of (number s.now) }
+pub fn number(s: &[u8]) -> Option<Taken<u32>>
+    ensures { result ≡ taken (number s.now) }
 {
     let k = run(s);
     if k == 0 {
-        return Decimal::NoNumber;
+        return None;
     }
     if 6 < k {
-        return Decimal::NoNumber;
+        return None;
     }
-    if (1 < k) & starts_with(s, 0, 48) {
-        return Decimal::NoNumber;
+    let several = 1 < k;
+    if several && starts_with(s, 0, b'0') {
+        return None;
     }
     let v = value(&s[..k]);
-    Decimal::Number { value: v, len: k }
-}
-
-// A number of six digits as a signed one, and the number below zero that is as far from it.
-fn positive(v: u32) -> i32
-    requires { v < 1000000 }
-    ensures { result ≡ pos v }
-{
-    v as i32
-}
-
-fn negative(v: u32) -> i32
-    requires { (0 < v) × (v < 1000000) }
-    ensures { result ≡ negsuc (v - 1) }
-{
-    0 - (v as i32)
+    Some(Taken { value: v, len: k })
 }
 
 // A decimal behind a minus, which is not zero.
-fn below_zero(s: &[u8]) -> SignedDecimal
-    ensures { result ≡ signed_of (negative (number s.now)) }
+fn below_zero(s: &[u8]) -> Option<Taken<i32>>
+    ensures { result ≡ taken (negative (number s.now)) }
 {
-    let Decimal::Number { value, len } = number(s) else {
-        return SignedDecimal::NoNumber;
-    };
+    let Taken { value, len } = number(s)?;
     if value == 0 {
-        return SignedDecimal::NoNumber;
+        return None;
     }
-    SignedDecimal::Number {
-        value: negative(value),
+    Some(Taken {
+        value: -value.cast_signed(),
         len: len + 1,
-    }
+    })
 }
 
 // A decimal, with a minus before one below zero.
-pub fn signed_number(s: &[u8]) -> SignedDecimal
-    ensures { result ≡ signed_of (signed_number s.now) }
+pub fn signed_number(s: &[u8]) -> Option<Taken<i32>>
+    ensures { result ≡ taken (signed_number s.now) }
 {
-    if starts_with(s, 0, 45) {
+    if starts_with(s, 0, b'-') {
         return below_zero(&s[1..]);
     }
-    let Decimal::Number { value, len } = number(s) else {
-        return SignedDecimal::NoNumber;
-    };
-    SignedDecimal::Number {
-        value: positive(value),
-        len: len,
-    }
-}
-
-fn no_decimals() -> Decimals
-    ensures { result ≡ decimals_of missing }
-{
-    Decimals {
-        found: false,
-        values: [0u32; 16],
-        count: 0,
-        len: 0,
-    }
+    let Taken { value, len } = number(s)?;
+    Some(Taken {
+        value: value.cast_signed(),
+        len,
+    })
 }
 
 // One to sixteen decimals joined by single commas.
-pub fn numbers(s: &[u8]) -> Decimals
-    ensures { result ≡ decimals_of (numbers 16 s.now) }
+pub fn numbers(s: &[u8]) -> Option<Taken<NumberList>>
+    ensures { result ≡ taken_as numbers_of (numbers 16 s.now) }
 {
     let mut values = [0u32; 16];
-    let mut count = 0;
     let mut at = 0;
-    while count < 16 {
-        let Decimal::Number { value, len } = number(&s[at..]) else {
-            return no_decimals();
-        };
-        values[count] = value;
-        count += 1;
+    for i in 0..16 {
+        let Taken { value, len } = number(&s[at..])?;
+        values[i] = value;
         at += len;
-        if !starts_with(s, at, 44) {
-            return Decimals {
-                found: true,
-                values: values,
-                count: count,
+        if !starts_with(s, at, b',') {
+            return Some(Taken {
+                value: NumberList {
+                    values,
+                    count: i + 1,
+                },
                 len: at,
-            };
+            });
         }
         at += 1;
     }
-    no_decimals()
-}
-
-// The same three, each with the byte `end` right after, which counts as taken.
-pub fn number_field(s: &[u8], end: u8) -> Decimal
-    ensures { result ≡ decimal_of (ended number end s.now) }
-{
-    let Decimal::Number { value, len } = number(s) else {
-        return Decimal::NoNumber;
-    };
-    if !starts_with(s, len, end) {
-        return Decimal::NoNumber;
-    }
-    Decimal::Number {
-        value: value,
-        len: len + 1,
-    }
-}
-
-pub fn signed_field(s: &[u8], end: u8) -> SignedDecimal
-    ensures { result ≡ signed_of (ended signed_number end s.now) }
-{
-    let SignedDecimal::Number { value, len } = signed_number(s) else {
-        return SignedDecimal::NoNumber;
-    };
-    if !starts_with(s, len, end) {
-        return SignedDecimal::NoNumber;
-    }
-    SignedDecimal::Number {
-        value: value,
-        len: len + 1,
-    }
-}
-
-pub fn numbers_field(s: &[u8], end: u8) -> Decimals
-    ensures { result ≡ decimals_of (ended (numbers 16) end s.now) }
-{
-    let d = numbers(s);
-    if !d.found {
-        return d;
-    }
-    let len = d.len;
-    if !starts_with(s, len, end) {
-        return no_decimals();
-    }
-    let mut e = d;
-    e.len = len + 1;
-    e
+    None
 }

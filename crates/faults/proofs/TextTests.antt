@@ -1,26 +1,26 @@
 -- The tests of a text, as the functions make them. Assumes nothing.
-use mathlib.Core.Bool.{false, ◌&&◌, ◌||◌}
-use mathlib.Core.List.{List}
-use mathlib.Core.Path.{◌≡◌}
-use Prim.Native.Nat.{ℕ, ◌+◌, ◌-◌, ◌≤◌, ◌<◌}
-use native.Mathlib.Numerals.{add-one}
-use native.Mathlib.Omega.{arith}
-use lib.Dec.{leb}
-use lib.ListN.{length, drop, drop_of_length-le, get_or-eq_default}
-use lib.Seq.{drop-cons}
-use Rattle.frames.specs.Fields.{byte}
+use mathlib.Core.Bool.{◌&&◌}
+use mathlib.Core.List.{List, [], ◌∷◌}
+use mathlib.Core.Path.{◌≡◌, refl, sym}
+use Prim.Native.Nat.{ℕ, ◌-◌}
+use denote.Ref.{Bor}
+use lib.Dec.{leb, eqb}
+use lib.ListN.{length, get_or}
+use Rattle.std.specs.Prelude.{Option, Some, None}
+use Rattle.std.specs.List.{list_any, slice_get}
+use Rattle.std.specs.Option.{option_copied, option_eq}
+use Rattle.std.proofs.lemmas.Option.{unwrap_or-slice_get}
+use Rattle.weak_orders.proofs.Tests.{by_test}
 use Rattle.faults.specs.Faults.{has_byte, ends_line}
 
--- from i on there is such a byte just if it is the first, or stands behind it
-pub byte_on : (low high : ℕ) (s : List ℕ) (i : ℕ) → i < length s →
-    has_byte low high (drop i s) ≡ ((leb low (byte s i) && leb (byte s i) high) || has_byte low high (drop (i + 1) s))
+pub any_byte : (low high : ℕ) (s : List ℕ) → list_any (λ b. leb low b && leb b high) s ≡ has_byte low high s
 unfolding has_byte
-byte_on low high s i h = rw (drop-cons s i 0 h, add-one i)
+any_byte low high [] = refl
+any_byte low high (b ∷ s) = by_test (leb low b && leb b high) (λ e. rw e) (λ e. rw e (any_byte low high s))
 
-pub byte_end : (low high : ℕ) (s : List ℕ) (i : ℕ) → length s ≤ i → has_byte low high (drop i s) ≡ false
-unfolding has_byte
-byte_end low high s i h = rw (drop_of_length-le s h)
-
-pub empty_ends : (s : List ℕ) → length s ≡ 0 → ends_line s ≡ false
+-- the last byte, which an empty text has not
+pub last_looked : (s : List ℕ) (o : Option (Bor ℕ)) (t : Bor ℕ) → option_copied o ≡ slice_get s (length s - 1) → t.now ≡ 10 →
+    option_eq (λ (x y : Bor ℕ). eqb x.now y.now) o (Some t) ≡ ends_line s
 unfolding ends_line
-empty_ends s e = rw (get_or-eq_default s 0 {n = length s - 1} (omega arith))
+last_looked s None t h e = let last = unwrap_or-slice_get s (length s - 1) 0 in let q : get_or s (length s - 1) 0 ≡ 0 = sym (rw (← h) at last) in rw q
+last_looked s (Some x) t h e = let last = unwrap_or-slice_get s (length s - 1) 0 in let q : get_or s (length s - 1) 0 ≡ x.now = sym (rw (← h) at last) in rw (q, e)

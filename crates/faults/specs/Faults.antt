@@ -1,16 +1,16 @@
 -- What is wrong with a sheet (document 01, "The printed round"), finer than the number of its refusal.
-use Rattle.std.specs.Prelude.{Bool, false, cond, not, ◌&&◌, ◌||◌, List, [], ◌∷◌, ℕ, ◌-◌, leb, ltb, eqb, ℤ, length}
-use Rattle.std.proofs.Math.Option.{Option, none, some}
+use Rattle.std.specs.Prelude.{Bool, false, cond, not, ◌&&◌, ◌||◌, List, [], ◌∷◌, ℕ, ◌-◌, leb, ltb, eqb, ℤ, length, Option, Some, None, Result, Ok, Err}
+use Rattle.std.proofs.Math.Option.{Option as Maybe, none, some}
 use Prim.Native.Char.{code}
 use Rattle.refusals.specs.Numbers.{cause_number}
-use Rattle.refusals.specs.declared.Verdict.{Verdict}
-use Rattle.refusals.specs.declared.Verdict.TheVariants.{Accepted, Refused}
+use Rattle.refusals.specs.declared.Cause.{Cause}
 use Rattle.frames.specs.Fields.{byte}
 use Rattle.levels.specs.Level.{top_ok, spacing_ok}
 use Rattle.sheets.specs.Sheet.{RawSheet, longest, has_title, parse}
 use Rattle.sheets.specs.Judgement.{judged}
+use Rattle.sheets.specs.declared.judge.Round.{Round}
 use Rattle.faults.specs.declared.Fault.{Fault}
-use Rattle.faults.specs.declared.Fault.TheVariants.{Nothing, Empty, TooLong, CarriageReturn, Tab, NotAscii, NoLineFeed, FirstLine}
+use Rattle.faults.specs.declared.Fault.TheVariants.{Empty, TooLong, CarriageReturn, Tab, NotAscii, NoLineFeed, FirstLine}
 use Rattle.faults.specs.declared.Fault.TheVariants.{SecondLine, Length, Rule, Count, RankForm, HeightForm, Top, Spacing, LowestLevel}
 
 -- ---- a text that reads as no sheet (14)
@@ -51,18 +51,18 @@ setting_fault top spacing = cond (not (top_ok top)) Top (cond (not (spacing_ok s
 abbrev pub refused_for : ℕ → Fault → Fault → Fault
 refused_for number start setting = cond (eqb number 6) Length (cond (eqb number 7) Rule (cond (eqb number 8) start setting))
 
-unfoldable pub sheet_fault : Verdict → RawSheet → Fault
-sheet_fault Accepted x = Nothing
-sheet_fault (Refused cause) x =
-    refused_for (cause_number cause) (start_fault (length x.start) x.n x.rule) (setting_fault x.top x.spacing)
+unfoldable pub sheet_fault : Result Round Cause → RawSheet → Option Fault
+sheet_fault (Ok round) x = None
+sheet_fault (Err cause) x =
+    Some (refused_for (cause_number cause) (start_fault (length x.start) x.n x.rule) (setting_fault x.top x.spacing))
 
 -- ---- a text
 
-unfoldable pub text_fault : List ℕ → Option RawSheet → Fault
+unfoldable pub text_fault : List ℕ → Maybe RawSheet → Option Fault
 unfolding malformed sheet_fault judged
-text_fault s none = malformed s
-text_fault s (some x) = sheet_fault (judged x).verdict x
+text_fault s none = Some (malformed s)
+text_fault s (some x) = sheet_fault (judged x) x
 
-unfoldable pub fault_of : List ℕ → Fault
+unfoldable pub fault_of : List ℕ → Option Fault
 unfolding text_fault parse
 fault_of s = text_fault s (parse s)

@@ -1,3 +1,4 @@
 pub mod Faults
 pub mod Claims
 pub mod Examples
+pub mod Words

@@ -3,7 +3,7 @@ use mathlib.Core.Bool.{true}
 use mathlib.Core.List.{List}
 use mathlib.Core.Path.{◌≡◌}
 use Prim.Native.Nat.{ℕ, ◌≤◌}
-use Rattle.refusals.specs.declared.Verdict.TheVariants.{Accepted}
+use Rattle.std.specs.Prelude.{Ok}
 use Rattle.weak_orders.specs.Window.{is_length}
 use Rattle.weak_orders.proofs.FormTests.{says_length}
 use Rattle.weak_orders.proofs.Judged.{refused}
@@ -11,7 +11,7 @@ use Rattle.weak_orders.proofs.Tests.{by_test}
 use Rattle.filling.specs.Answers.{judged_pattern}
 use Rattle.filling.specs.Pattern.{is_pattern, fillable}
 
-pub accepted_pattern : (n : ℕ) (p : List ℕ) → judged_pattern n p ≡ Accepted → (n ≤ 16) × (is_pattern n p ≡ true) × (fillable n p ≡ true)
+pub accepted_pattern : (n : ℕ) (p : List ℕ) → judged_pattern n p ≡ Ok tt → (n ≤ 16) × (is_pattern n p ≡ true) × (fillable n p ≡ true)
 unfolding judged_pattern
 accepted_pattern n p e = by_test (is_length n)
     (λ a. by_test (is_pattern n p)

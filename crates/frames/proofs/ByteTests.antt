@@ -2,18 +2,15 @@
 use mathlib.Core.Bool.{true, false, ◌&&◌, false≢true}
 use mathlib.Core.List.{List, [], ◌∷◌, head-eq_of_cons-eq, tail-eq_of_cons-eq}
 use mathlib.Core.Path.{◌≡◌, refl, ap, ap₂}
-use Prim.Native.Nat.{ℕ, suc, ◌+◌, ◌-◌, ◌≤◌, ◌<◌}
-use native.Mathlib.Numerals.{add-one}
+use Prim.Native.Nat.{ℕ, ◌+◌, ◌≤◌, ◌<◌}
 use native.Mathlib.Omega.{arith}
 use lib.Dec.{eqb}
-use lib.ListN.{length, drop, drop_of_length-le}
+use lib.ListN.{length, drop}
 use lib.Pointwise.{pointwise}
-use lib.Seq.{drop-cons}
-use Rattle.weak_orders.specs.Window.{all}
 use Rattle.weak_orders.specs.Says.{Says}
 use Rattle.weak_orders.proofs.Lists.{all_from, all_past}
 use Rattle.weak_orders.proofs.Tests.{says_as, says_and, says_eq}
-use Rattle.frames.specs.Fields.{byte, part, zeros, same_bytes}
+use Rattle.frames.specs.Fields.{byte, zeros, same_bytes}
 
 -- the bytes from i on are zero just if the first is, and those behind it
 pub zeros-drop : (f : List ℕ) (i : ℕ) → i < length f → zeros (drop i f) ≡ (eqb 0 (byte f i) && zeros (drop (i + 1) f))
@@ -23,15 +20,6 @@ zeros-drop f i h = all_from (eqb 0) 0 f i h
 pub zeros-none : (f : List ℕ) (i : ℕ) → length f ≤ i → zeros (drop i f) ≡ true
 unfolding zeros
 zeros-none f i h = all_past (eqb 0) f i h
-
--- the bytes from i up to `end` are zero just if the first is, and those behind it
-pub zeros-next : (f : List ℕ) (i end : ℕ) → i < end → end ≤ length f →
-    zeros (part f i (end - i)) ≡ (eqb 0 (byte f i) && zeros (part f (i + 1) (end - (i + 1))))
-unfolding zeros all part
-zeros-next f i end lt le =
-    let k : end - i ≡ suc (end - (i + 1)) = omega arith in
-    let h : i < length f = omega arith in
-    rw (k, drop-cons f i 0 h, add-one i)
 
 -- a test that fails says what does not hold
 never : {A : Type 0} → ¬ A → Says false A
@@ -53,13 +41,3 @@ pointwise_same_bytes [] [] = refl
 pointwise_same_bytes [] (y ∷ v) = refl
 pointwise_same_bytes (x ∷ u) [] = refl
 pointwise_same_bytes (x ∷ u) (y ∷ v) = ap (λ t. eqb x y && t) (pointwise_same_bytes u v)
-
--- the bytes from i on are the same just if the first two are, and those behind them
-pub same_from : (u v : List ℕ) (i : ℕ) → i < length u → i < length v →
-    same_bytes (drop i u) (drop i v) ≡ (eqb (byte u i) (byte v i) && same_bytes (drop (i + 1) u) (drop (i + 1) v))
-unfolding same_bytes
-same_from u v i h k = rw (drop-cons u i 0 h, drop-cons v i 0 k, add-one i)
-
-pub same_past : (u v : List ℕ) (i : ℕ) → length u ≤ i → length v ≤ i → same_bytes (drop i u) (drop i v) ≡ true
-unfolding same_bytes
-same_past u v i h k = rw (drop_of_length-le u h, drop_of_length-le v k)

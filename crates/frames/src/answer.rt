@@ -1,13 +1,14 @@
 // The reply to a frame, and the forty bytes of its answer.
 ghost use Rattle.std.specs.Prelude.{◌++◌, [], ◌∷◌, ◌≡◌, take, drop, replicate};
-ghost use Rattle.frames.specs.Fields.{bytes32, bytes64};
+ghost use Rattle.frames.specs.Fields.{bytes32, bits32, bytes64};
 ghost use Rattle.frames.specs.Answer.{header_for, answer_bytes, reply_number};
 ghost use Rattle.refusals.specs.Numbers.{cause_number};
 
 use crate::field;
 use refusals::Cause;
 
-// What a frame is answered, and a level file. Only a step has a symbol and a level; the others have 0.
+// What a frame is answered, and a level file. Only a step has a symbol and a level; the others have 0. The refused case
+// carries its cause (docs/DECISIONS.md).
 #[derive(Clone, Copy)]
 pub enum Reply {
     Accepted { symbol: u8, level: i32 },
@@ -19,33 +20,29 @@ fn with_header(answer: [u8; 40], second: bool) -> [u8; 40]
     ensures { result ≡ header_for second ++ drop 4 answer }
 {
     if second {
-        return field::with_header(answer, b"WKA2");
+        field::with_header(answer, b"WKA2")
+    } else {
+        field::with_header(answer, b"WKA1")
     }
-    field::with_header(answer, b"WKA1")
 }
 
 // An answer with the steps done in bytes 8 to 15.
-fn with_done(answer: [u8; 40], done: u64) -> [u8; 40]
+fn with_done(mut answer: [u8; 40], done: u64) -> [u8; 40]
     ensures { result ≡ take 8 answer ++ (bytes64 done ++ drop 16 answer) }
 {
-    let mut a = answer;
-    let d = field::bytes_of(done);
-    a[8..16].copy_from_slice(&d);
-    a
+    answer[8..16].copy_from_slice(&field::bytes_of(done));
+    answer
 }
 
-// The symbol, the number of different symbols, the round number, and the level in two's complement; the other bytes zero.
-fn with_level(symbol: u8, different: u8, round: u8, bits: u32) -> [u8; 40]
-    ensures { result ≡ replicate 5 0 ++ (symbol ∷ different ∷ round ∷ []) ++ replicate 8 0 ++ bytes32 bits ++ replicate 20 0 }
+// The symbol, the number of different symbols, the round number, and the level; the other bytes zero.
+fn with_level(symbol: u8, different: u8, round: u8, level: i32) -> [u8; 40]
+    ensures { result ≡ replicate 5 0 ++ (symbol ∷ different ∷ round ∷ []) ++ replicate 8 0 ++ bytes32 (bits32 level) ++ replicate 20 0 }
 {
-    let mut a = [0u8; 40];
+    let mut a = [0; 40];
     a[5] = symbol;
     a[6] = different;
     a[7] = round;
-    a[16] = (bits % 256) as u8;
-    a[17] = (bits / 256 % 256) as u8;
-    a[18] = (bits / 65536 % 256) as u8;
-    a[19] = (bits / 16777216) as u8;
+    a[16..20].copy_from_slice(&level.to_le_bytes());
     a
 }
 
@@ -53,12 +50,13 @@ fn with_level(symbol: u8, different: u8, round: u8, bits: u32) -> [u8; 40]
 fn refusal_bytes(second: bool, cause: Cause) -> [u8; 40]
     ensures { result ≡ header_for second ++ (cause_number cause ∷ replicate 35 0) }
 {
-    let mut a = [0u8; 40];
-    a[4] = refusals::number(cause);
+    let mut a = [0; 40];
+    a[4] = u8::from(cause);
     with_header(a, second)
 }
 
 // The one encoder of answers.
+#[tactic(auto, unfolding(crate::specs::Answer::answer_bytes))]
 pub fn answer_bytes(
     second: bool,
     round: u8,
@@ -71,7 +69,7 @@ pub fn answer_bytes(
 {
     match reply {
         Reply::Accepted { symbol, level } => {
-            let answer = with_level(symbol, different, round, field::bits_of(level));
+            let answer = with_level(symbol, different, round, level);
             with_header(field::with_window(with_done(answer, done), window), second)
         }
         Reply::Refused(cause) => refusal_bytes(second, cause),
@@ -83,10 +81,7 @@ pub fn number(reply: Reply) -> u8
     ensures { result ≡ reply_number reply }
 {
     match reply {
-        Reply::Accepted {
-            symbol: _,
-            level: _,
-        } => 0,
-        Reply::Refused(cause) => refusals::number(cause),
+        Reply::Accepted { .. } => 0,
+        Reply::Refused(cause) => u8::from(cause),
     }
 }

@@ -1,123 +1,74 @@
 // The fields of a question, in its forty bytes, and the bytes of a begin frame.
-ghost use Rattle.std.specs.Prelude.{◌++◌, [], ◌∷◌, ◌≡◌, ◌+◌, ◌≤◌, ◌<◌, length, take, replicate};
-ghost use Rattle.frames.specs.Fields.{part, zeros, same_bytes, unsigned16, unsigned64, bytes16, bytes32};
+ghost use Rattle.std.specs.Prelude.{◌++◌, [], ◌∷◌, ◌≡◌, replicate};
+ghost use Rattle.frames.specs.Fields.{bits16, bytes16};
 ghost use Rattle.frames.specs.Question.{is_question, is_second, letter_b, number_in, setting_in, takes_table, window_in};
 ghost use Rattle.frames.specs.Question.{round_number_ok, reserved_b, reserved_s, reserved_q, begin_bytes};
 
 use crate::field;
 use levels::Setting;
 
-// Bytes 0–3 are these.
-fn starts(frame: &[u8], header: &[u8]) -> bool
-    requires { 4 ≤ length frame.now }
-    ensures { result ≡ same_bytes (part frame.now 0 4) header.now }
-{
-    field::same(&frame[..4], header)
-}
-
 // Bytes 0–3 are WKO1 or WKO2.
+#[tactic(auto, unfolding(crate::specs::Question::is_question, crate::specs::Fields::part))]
 pub fn is_question(f: [u8; 40]) -> bool
     ensures { result ≡ is_question f }
 {
-    starts(&f, b"WKO1") | starts(&f, b"WKO2")
+    field::same(&f[..4], b"WKO1") || field::same(&f[..4], b"WKO2")
 }
 
 // A frame of the second version.
+#[tactic(auto, unfolding(crate::specs::Question::is_second, crate::specs::Fields::part))]
 pub fn is_second(frame: &[u8]) -> bool
     ensures { result ≡ is_second frame.now }
 {
-    if frame.len() != 40 {
-        return false;
-    }
-    starts(frame, b"WKO2")
-}
-
-// The `count` bytes from `from` on are zero.
-fn zeros_in(f: [u8; 40], from: usize, count: usize) -> bool
-    requires { from + count ≤ 40 }
-    ensures { result ≡ zeros (part f from count) }
-{
-    let end = from + count;
-    field::all_zero(&f[from..end])
+    frame.len() == 40 && field::same(&frame[..4], b"WKO2")
 }
 
 // Byte 7 of a begin or step frame: a round number in the second version, zero in the first.
+#[tactic(auto, unfolding(crate::specs::Question::round_number_ok))]
 fn round_number_ok(f: [u8; 40]) -> bool
     ensures { result ≡ round_number_ok f }
 {
-    let round = f[7];
-    if is_second(&f) {
-        return round != 0;
-    }
-    round == 0
+    if is_second(&f) { f[7] != 0 } else { f[7] == 0 }
 }
 
-// Test 5 for a begin, a step and a query frame.
+// Test 5 for a begin, a step and a query frame. Three functions: each names its own bytes.
+#[tactic(auto, unfolding(crate::specs::Question::reserved_b, crate::specs::Fields::part))]
 pub fn reserved_begin(f: [u8; 40]) -> bool
     ensures { result ≡ reserved_b f }
 {
-    round_number_ok(f) & (zeros_in(f, 8, 8) & zeros_in(f, 20, 4))
+    round_number_ok(f) && field::all_zero(&f[8..16]) && field::all_zero(&f[20..24])
 }
 
+#[tactic(auto, unfolding(crate::specs::Question::reserved_s, crate::specs::Fields::part))]
 pub fn reserved_step(f: [u8; 40]) -> bool
     ensures { result ≡ reserved_s f }
 {
-    round_number_ok(f) & (zeros_in(f, 5, 2) & zeros_in(f, 16, 24))
+    round_number_ok(f) && field::all_zero(&f[5..7]) && field::all_zero(&f[16..40])
 }
 
+#[tactic(auto, unfolding(crate::specs::Question::reserved_q, crate::specs::Fields::part))]
 pub fn reserved_query(f: [u8; 40]) -> bool
     ensures { result ≡ reserved_q f }
 {
-    zeros_in(f, 5, 35)
-}
-
-// A byte, wider, and below 256.
-fn wide16(x: u8) -> u16
-    ensures { (result ≡ x) × (result < 256) }
-{
-    x as u16
-}
-
-fn wide64(x: u8) -> u64
-    ensures { (result ≡ x) × (result < 256) }
-{
-    x as u64
-}
-
-// Little-endian numbers at a place in the frame.
-fn u16_at(f: [u8; 40], at: usize) -> u16
-    requires { at + 2 ≤ 40 }
-    ensures { result ≡ unsigned16 f at }
-{
-    wide16(f[at]) + 256 * wide16(f[at + 1])
-}
-
-fn u64_at(f: [u8; 40], at: usize) -> u64
-    requires { at + 8 ≤ 40 }
-    ensures { result ≡ unsigned64 f at }
-{
-    let high = wide64(f[at + 4])
-        + 256 * (wide64(f[at + 5]) + 256 * (wide64(f[at + 6]) + 256 * wide64(f[at + 7])));
-    wide64(f[at])
-        + 256
-            * (wide64(f[at + 1])
-                + 256 * (wide64(f[at + 2]) + 256 * (wide64(f[at + 3]) + 256 * high)))
+    field::all_zero(&f[5..40])
 }
 
 // Bytes 8–15, 16–19 with a table, and 24–39.
+#[tactic(auto, unfolding(crate::specs::Question::number_in))]
 pub fn number_in(f: [u8; 40]) -> u64
     ensures { result ≡ number_in f }
 {
-    u64_at(f, 8)
+    u64::from_le_bytes([f[8], f[9], f[10], f[11], f[12], f[13], f[14], f[15]])
 }
 
+#[tactic(auto, unfolding(crate::specs::Question::setting_in))]
 pub fn setting_in(f: [u8; 40], table: [i16; 16]) -> Setting
     ensures { result ≡ setting_in f table }
 {
     Setting {
-        top: field::signed_of(u16_at(f, 16)),
-        spacing: u16_at(f, 18),
-        table: table,
+        top: i16::from_le_bytes([f[16], f[17]]),
+        spacing: u16::from_le_bytes([f[18], f[19]]),
+        table,
     }
 }
 
@@ -125,34 +76,34 @@ pub fn setting_in(f: [u8; 40], table: [i16; 16]) -> Setting
 pub fn takes_table(f: [u8; 40]) -> bool
     ensures { result ≡ takes_table f }
 {
-    levels::on_table(setting_in(f, [0i16; 16]))
+    levels::on_table(setting_in(f, [0; 16]))
 }
 
+#[tactic(auto, unfolding(crate::specs::Question::window_in, crate::specs::Fields::part))]
 pub fn window_in(f: [u8; 40]) -> [u8; 16]
     ensures { result ≡ window_in f }
 {
-    let mut w = [0u8; 16];
-    w.copy_from_slice(&f[24..40]);
-    w
+    let mut window = [0; 16];
+    window.copy_from_slice(&f[24..40]);
+    window
 }
 
 // The fields of a begin frame before its window; the other bytes zero.
-fn with_setting(n: u8, rule: u8, round: u8, top: u32, spacing: u16) -> [u8; 40]
-    ensures { result ≡ replicate 4 0 ++ (letter_b ∷ n ∷ rule ∷ round ∷ []) ++ replicate 8 0 ++ take 2 (bytes32 top) ++ bytes16 spacing ++ replicate 20 0 }
+fn with_setting(n: u8, rule: u8, round: u8, top: i16, spacing: u16) -> [u8; 40]
+    ensures { result ≡ replicate 4 0 ++ (letter_b ∷ n ∷ rule ∷ round ∷ []) ++ replicate 8 0 ++ bytes16 (bits16 top) ++ bytes16 spacing ++ replicate 20 0 }
 {
-    let mut f = [0u8; 40];
+    let mut f = [0; 40];
     f[4] = b'B';
     f[5] = n;
     f[6] = rule;
     f[7] = round;
-    f[16] = (top % 256) as u8;
-    f[17] = (top / 256 % 256) as u8;
-    f[18] = (spacing % 256) as u8;
-    f[19] = (spacing / 256) as u8;
+    f[16..18].copy_from_slice(&top.to_le_bytes());
+    f[18..20].copy_from_slice(&spacing.to_le_bytes());
     f
 }
 
 // The one encoder of begin frames.
+#[tactic(auto, unfolding(crate::specs::Question::begin_bytes))]
 pub fn begin_bytes(
     second: bool,
     n: u8,
@@ -163,10 +114,11 @@ pub fn begin_bytes(
 ) -> [u8; 40]
     ensures { result ≡ begin_bytes second n rule round setting window }
 {
-    let top = field::bits_of(setting.top as i32);
-    let f = field::with_window(with_setting(n, rule, round, top, setting.spacing), window);
+    let fields = with_setting(n, rule, round, setting.top, setting.spacing);
+    let f = field::with_window(fields, window);
     if second {
-        return field::with_header(f, b"WKO2");
+        field::with_header(f, b"WKO2")
+    } else {
+        field::with_header(f, b"WKO1")
     }
-    field::with_header(f, b"WKO1")
 }

@@ -11,83 +11,68 @@ use refusals::Cause;
 use stepper::session;
 use stepper::session::{Exchanged, Session};
 
-// A frame of forty bytes as an array.
-fn load(frame: &[u8]) -> [u8; 40]
-    requires { length frame.now ≡ 40 }
-    ensures { result ≡ frame.now }
-{
-    let mut f = [0u8; 40];
-    f.copy_from_slice(frame);
-    f
-}
-
 // The round's copy of the table held, if a begin frame asks for it.
+#[tactic(auto, unfolding(stepper::specs::Exchange::table_for))]
 fn table_for(f: [u8; 40], held: [i16; 16]) -> [i16; 16]
     ensures { result ≡ table_for f held }
 {
     if question::takes_table(f) {
-        return held;
+        held
+    } else {
+        [0; 16]
     }
-    [0i16; 16]
 }
 
 // The version of the session that a begin frame asks for.
 fn version_in(f: [u8; 40]) -> u8
     ensures { result ≡ version_of (is_second f) }
 {
-    if question::is_second(&f) {
-        return 2;
-    }
-    1
+    if question::is_second(&f) { 2 } else { 1 }
 }
 
 // The session that a begin frame asks for. Out of line, so that a frame needs less stack: no call takes more than 1500 bytes.
 #[inline(never)]
+#[tactic(auto, unfolding(stepper::specs::Exchange::round_in))]
 fn round_in(f: [u8; 40], held: [i16; 16]) -> Session
     ensures { result ≡ round_in f held }
 {
-    let setting = question::setting_in(f, table_for(f, held));
-    let window = question::window_in(f);
-    let version = version_in(f);
     Session {
         begun: 1,
-        version: version,
+        version: version_in(f),
         round: f[7],
-        n: f[5] as usize,
+        n: usize::from(f[5]),
         rule: f[6],
-        setting: setting,
-        window: window,
+        setting: question::setting_in(f, table_for(f, held)),
+        window: question::window_in(f),
         done: 0,
-        held: held,
+        held,
     }
 }
 
 // A begin frame for a new round: tests 6 to 9, and 19. `taken` says whether its number is that of the WKO2 round in force.
+#[tactic(auto, unfolding(stepper::specs::Exchange::begin_anew, frames::specs::Answer::accepted))]
 fn begin_anew(session: Session, taken: bool, f: [u8; 40]) -> Exchanged
     requires { taken ≡ takes_number session f }
     ensures { result ≡ begin_anew session f }
 {
-    let held = session.held;
-    let next = round_in(f, held);
+    let next = round_in(f, session.held);
     let reply = session::begin_reply(next);
     match reply {
         Reply::Refused(cause) => session.refuse(cause),
-        Reply::Accepted {
-            symbol: _,
-            level: _,
-        } => {
+        Reply::Accepted { .. } => {
             if taken {
                 return session.refuse(Cause::RoundInForce);
             }
             Exchanged {
                 session: next,
-                reply: reply,
+                reply,
             }
         }
     }
 }
 
 // The three kinds, from test 5 on.
+#[tactic(auto, unfolding(stepper::specs::Exchange::begin_frame, stepper::specs::Exchange::is_again, stepper::specs::Exchange::takes_number))]
 fn begin_frame(session: Session, f: [u8; 40]) -> Exchanged
     ensures { result ≡ begin_frame session f }
 {
@@ -102,17 +87,17 @@ fn begin_frame(session: Session, f: [u8; 40]) -> Exchanged
     begin_anew(session, taken, f)
 }
 
+#[tactic(auto, unfolding(stepper::specs::Exchange::step_frame))]
 fn step_frame(session: Session, f: [u8; 40]) -> Exchanged
     ensures { result ≡ step_frame session f }
 {
     if !question::reserved_step(f) {
         return session.refuse(Cause::ReservedByte);
     }
-    let second = question::is_second(&f);
-    let round = f[7];
-    session.step(second, round, question::number_in(f))
+    session.step(question::is_second(&f), f[7], question::number_in(f))
 }
 
+#[tactic(auto, unfolding(stepper::specs::Exchange::query_frame))]
 fn query_frame(session: Session, f: [u8; 40]) -> Exchanged
     ensures { result ≡ query_frame session f }
 {
@@ -124,18 +109,17 @@ fn query_frame(session: Session, f: [u8; 40]) -> Exchanged
 
 // Tests 2 to 4, then by kind.
 #[inline(always)]
+#[tactic(auto, unfolding(stepper::specs::Exchange::handle))]
 pub(crate) fn handle(session: Session, frame: &[u8]) -> Exchanged
     ensures { result ≡ handle session frame.now }
 {
-    if frame.len() != 40 {
+    let Ok(f) = <[u8; 40]>::try_from(frame) else {
         return session.refuse(Cause::FrameLength);
-    }
-    let f = load(frame);
+    };
     if !question::is_question(f) {
         return session.refuse(Cause::FrameHeader);
     }
-    let kind = f[4];
-    match kind {
+    match f[4] {
         b'B' => begin_frame(session, f),
         b'S' => step_frame(session, f),
         b'Q' => query_frame(session, f),
@@ -147,23 +131,24 @@ pub(crate) fn handle(session: Session, frame: &[u8]) -> Exchanged
 fn round_shown(second: bool, round: u8) -> u8
     ensures { result ≡ cond second round 0 }
 {
-    if second {
-        return round;
-    }
-    0
+    if second { round } else { 0 }
 }
 
 // The forty bytes of an answer to a frame of the second version or another. An accepted frame leaves a session that has begun, whose symbols fit
-// the bits of a u32.
+// the bits of a u32, so `as` loses none.
 pub(crate) fn answer_to(x: Exchanged, second: bool) -> [u8; 40]
     requires { accepted x.reply ≡ true → has_begun x.session ≡ true }
     ensures { result ≡ answer_to second x }
 {
     let session = x.session;
-    let reply = x.reply;
-    let w = session.window;
-    let n = session.n;
     let round = round_shown(second, session.round);
-    let different = weak_orders::different(w, n) as u8;
-    frames::answer::answer_bytes(second, round, reply, different, session.done, w)
+    let different = weak_orders::different(session.window, session.n) as u8;
+    frames::answer::answer_bytes(
+        second,
+        round,
+        x.reply,
+        different,
+        session.done,
+        session.window,
+    )
 }

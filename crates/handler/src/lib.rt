@@ -27,15 +27,16 @@ pub fn exchange(session: Session, frame: &[u8], answer: &mut [u8]) -> Exchanged
 }
 
 // A level file: the table in it replaces the one that the session holds. A round that has begun goes on with its copy.
+#[tactic(auto, unfolding(stepper::specs::Exchange::load_levels, stepper::specs::Exchange::loaded, stepper::specs::Exchange::with_table))]
 pub fn load_levels(session: Session, file: &[u8]) -> Exchanged
     ensures { result ≡ load_levels session file.now }
 {
-    let read = level_files::read_table(file);
-    if !read.found {
-        return session.refuse(Cause::LevelFile);
+    match level_files::read_table(file) {
+        Some(table) => Session {
+            held: table,
+            ..session
+        }
+        .accept(),
+        None => session.refuse(Cause::LevelFile),
     }
-    let table = read.table;
-    let mut next = session;
-    next.held = table;
-    next.accept()
 }

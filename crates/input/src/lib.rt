@@ -10,7 +10,7 @@ ghost use Rattle.input.specs.Filled.{Filled};
 use std::io;
 use std::io::Read;
 
-// How many bytes came, and why a read behind them failed, if one did.
+// How many bytes came, and why a read behind them failed, if one did. No `Result`: the bytes count where a read failed, too.
 #[derive(Clone, Copy, Debug)]
 pub struct Got {
     pub len: usize,
@@ -32,7 +32,7 @@ fn read_once<R: Read>(input: &mut R, out: &mut [u8]) -> Got
     }
 }
 
-// Reads until the slice is full, the input ends or a read fails.
+// Reads until the slice is full, the input ends or a read fails. No index is counted: a turn adds what its read took.
 pub fn fill<R: Read>(input: &mut R, out: &mut [u8]) -> Got
     ensures filled { Filled result out.new }
     ensures bytes { Consumes (R.remaining input.old) (R.remaining input.new) (take result.len out.new) }

@@ -2,7 +2,7 @@
 use mathlib.Core.Bool.{true, false, cond, ◌&&◌}
 use mathlib.Core.List.{List, [], append-nil}
 use mathlib.Core.Option.{none, some}
-use mathlib.Core.Path.{◌≡◌, refl, ◌∙◌}
+use mathlib.Core.Path.{◌≡◌, refl, sym, ◌∙◌}
 use Prim.Native.Nat.{ℕ, ◌+◌, ◌≤◌, ◌<◌}
 use native.Mathlib.Omega.{arith}
 use lib.Dec.{leb, eqb}
@@ -15,25 +15,16 @@ use Rattle.weak_orders.proofs.Lists.{all_in}
 use Rattle.levels.specs.Table.{level_allowed, falls, table_ok}
 use Rattle.levels.proofs.Tables.{says_table}
 use Rattle.decimals.specs.Reading.{Found, found, missing, further, begins_with, behind}
-use Rattle.decimals.proofs.Readers.{Reads, takes_within, reads_behind}
+use Rattle.decimals.proofs.Readers.{Reads, reads_behind}
 use Rattle.decimals.proofs.Answers.{behind-other, behind_here}
-use Rattle.level_files.specs.declared.Lines.{Lines}
+use Rattle.std.specs.Prelude.{Some, None}
+use Rattle.std.proofs.lemmas.Option.{none-some, same_Some}
+use Rattle.decimals.specs.declared.Taken.{Taken}
 use Rattle.level_files.specs.LevelFile.{title_line, level_lines, table_text, levels, wholly, read_table, ReadsTable}
 use Rattle.level_files.specs.Held.{lines_of}
 use Rattle.level_files.proofs.LevelTexts.{Writable, allowed_short, reads_levels, lines_width}
 
 -- ---- the answer
-
--- what was found ends within the text
-pub lines_within : (s : List ℕ) (l : Lines) → l ≡ lines_of (levels 16 0 s) → l.len ≤ length s
-unfolding lines_of
-lines_within s l e = go (levels 16 0 s) refl e
-  where
-    go : (f : Found (List ℤ)) → levels 16 0 s ≡ f → l ≡ lines_of f → l.len ≤ length s
-    go missing r e = rw e (omega arith)
-    go (found t k) r e =
-        let h : k ≤ length s = takes_within ((reads_levels 16 0 (omega arith)).sound s t k r).0 in
-        by_test (all level_allowed t) (λ a. rw (e, a) h) (λ a. rw (e, a) (omega arith))
 
 module _ (s : List ℕ) where
   pub file_long : 512 < length s → read_table s ≡ none
@@ -45,21 +36,37 @@ module _ (s : List ℕ) where
     unfolding read_table wholly
     other_title e = rw (le-leb (length s) 512 short, behind-other title_line (λ (t : List ℤ). t) (levels 16 0) s e)
 
-    -- the test that the function makes is the one that makes a table of what was found
-    pub same_title : (l : Lines) → begins_with title_line s ≡ true → l ≡ lines_of (levels 16 0 (drop 8 s)) →
-        read_table s ≡ cond ((l.found && eqb (l.len + 8) (length s)) && falls l.table) (some l.table) none
-    unfolding read_table wholly lines_of further table_ok
-    same_title l e q = rw (le-leb (length s) 512 short, behind_here title_line (λ (t : List ℤ). t) (levels 16 0) s e) (go (levels 16 0 (drop 8 s)) refl q)
-      where
-        go : (f : Found (List ℤ)) → levels 16 0 (drop 8 s) ≡ f → l ≡ lines_of f →
-            wholly (length s) (further 8 (λ (t : List ℤ). t) f) ≡ cond ((l.found && eqb (l.len + 8) (length s)) && falls l.table) (some l.table) none
-        go missing r q = rw q
-        go (found t k) r q =
-            let (_, (n, _)) = (reads_levels 16 0 (omega arith)).sound (drop 8 s) t k r in
-            let sum : 8 + k ≡ k + 8 = omega arith in
-            by_test (all level_allowed t)
-            (λ a. rw (q, a, eq-eqb (length t) 16 n, sum))
-            (λ a. rw (q, a, eq-eqb (length t) 16 n, sum) (by_test (eqb (k + 8) (length s)) (λ b. rw b) (λ b. rw b)))
+    module _ (begun : begins_with title_line s ≡ true) where
+      same_title : read_table s ≡ wholly (length s) (further 8 (λ (t : List ℤ). t) (levels 16 0 (drop 8 s)))
+      unfolding read_table
+      same_title = rw (le-leb (length s) 512 short, behind_here title_line (λ (t : List ℤ). t) (levels 16 0) s begun)
+
+      pub no_lines : None ≡ lines_of (levels 16 0 (drop 8 s)) → read_table s ≡ none
+      unfolding wholly lines_of further table_ok
+      no_lines e = same_title ∙ go (levels 16 0 (drop 8 s)) e
+        where
+          go : (f : Found (List ℤ)) → None ≡ lines_of f → wholly (length s) (further 8 (λ (t : List ℤ). t) f) ≡ none
+          go missing e = refl
+          go (found t k) e = by_test (all level_allowed t)
+              (λ a. absurd (none-some _ (rw a at e)))
+              (λ a. rw a (by_test (eqb (8 + k) (length s)) (λ b. rw b (by_test (eqb (length t) 16) (λ n. rw n) (λ n. rw n))) (λ b. rw b)))
+
+      -- the tests that the function makes are those that make a table of what was found
+      pub some_lines : (l : Taken (List ℤ)) → Some l ≡ lines_of (levels 16 0 (drop 8 s)) →
+          read_table s ≡ cond (eqb (8 + l.len) (length s) && falls l.value) (some l.value) none
+      unfolding wholly lines_of further table_ok
+      some_lines l e = same_title ∙ go (levels 16 0 (drop 8 s)) refl e
+        where
+          go : (f : Found (List ℤ)) → levels 16 0 (drop 8 s) ≡ f → Some l ≡ lines_of f →
+              wholly (length s) (further 8 (λ (t : List ℤ). t) f) ≡ cond (eqb (8 + l.len) (length s) && falls l.value) (some l.value) none
+          go missing r e = absurd (none-some _ (sym e))
+          go (found t k) r e = by_test (all level_allowed t)
+              (λ a.
+              let q : Some l ≡ Some (record { value = t; len = k }) = rw a at e in
+              let p = same_Some _ _ q in
+              let (_, (n, _)) = (reads_levels 16 0 (omega arith)).sound (drop 8 s) t k r in
+              rw (p, a, eq-eqb (length t) 16 n))
+              (λ a. absurd (none-some _ (sym (rw a at e))))
 
 -- ---- the whole file
 

@@ -15,7 +15,8 @@ use Rattle.decimals.specs.Reading.{Found, found, missing, further, next, both}
 use Rattle.decimals.proofs.Gathering.{after, after_none, after_more}
 use Rattle.decimals.proofs.Readers.{further_within}
 use Rattle.level_files.specs.LevelFile.{level_line, line_of, levels}
-use Rattle.level_files.specs.Held.{no_lines, lines_of}
+use Rattle.std.specs.Prelude.{Some, None}
+use Rattle.level_files.specs.Held.{lines_of}
 use Rattle.level_files.proofs.LevelTexts.{reads_line_of}
 
 all_front : (vs l : List ℤ) → all level_allowed vs ≡ true → all level_allowed (vs ++ l) ≡ all level_allowed l
@@ -38,7 +39,7 @@ unfolding all
 read_none s = record { few = omega arith; within = omega arith; long = refl; allowed = refl; rest = sym (after_none (levels 16 0 s)) }
 
 pub read_all : (s : List ℕ) (table : List ℤ) (at d : ℕ) → Read s table at d → 16 ≤ d →
-    lines_of (levels 16 0 s) ≡ record { found = true; table = table; len = at }
+    lines_of (levels 16 0 s) ≡ Some (record { value = table; len = at })
 unfolding levels after lines_of
 read_all s table at d r h =
     let z : 16 - d ≡ 0 = omega arith in
@@ -57,7 +58,7 @@ one_further z k missing = refl
 
 -- with a level that no table may hold there are no lines
 refused : (vs : List ℤ) (at : ℕ) (z : ℤ) (k : ℕ) (f : Found (List ℤ)) → all level_allowed vs ≡ true → level_allowed z ≡ false →
-    lines_of (after vs at (further k (λ l. z ∷ l) f)) ≡ no_lines
+    lines_of (after vs at (further k (λ l. z ∷ l) f)) ≡ None
 unfolding further after lines_of all
 refused vs at z k (found l m) a f = rw (all_front vs (z ∷ l) a, f)
 refused vs at z k missing a f = refl
@@ -68,7 +69,7 @@ module _ (s : List ℕ) (table : List ℤ) (at d : ℕ) (r : Read s table at d) 
   unfolding levels
   step = let e : 16 - d ≡ suc (15 - d) = omega arith in rw e at r.rest
 
-  pub read_missing : line_of d (level_line (drop at s)) ≡ missing → lines_of (levels 16 0 s) ≡ no_lines
+  pub read_missing : line_of d (level_line (drop at s)) ≡ missing → lines_of (levels 16 0 s) ≡ None
   unfolding both next further after lines_of
   read_missing e = ap lines_of (rw e at step)
 
@@ -77,7 +78,7 @@ module _ (s : List ℕ) (table : List ℤ) (at d : ℕ) (r : Read s table at d) 
     unfolding both next
     line = rw (e, one_further z k (levels (15 - d) (suc d) (drop k (drop at s))), drop-drop k at s) at step
 
-    pub read_refused : level_allowed z ≡ false → lines_of (levels 16 0 s) ≡ no_lines
+    pub read_refused : level_allowed z ≡ false → lines_of (levels 16 0 s) ≡ None
     read_refused f = ap lines_of line ∙ refused (take d table) at z k (levels (15 - d) (suc d) (drop (at + k) s)) r.allowed f
 
     pub line_within : at + k ≤ length s

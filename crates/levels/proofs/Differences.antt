@@ -2,12 +2,12 @@
 use mathlib.Core.Bool.{true, false, not, false≢true}
 use mathlib.Core.Path.{◌≡◌, refl, sym, ap, ◌∙◌}
 use Prim.Native.Nat.{ℕ, zero, suc, ◌+◌, ◌-◌, ◌≤◌, ◌<◌}
-use native.Mathlib.Nat.{zero-add, add-zero}
+use native.Mathlib.Nat.{add-zero}
 use native.Mathlib.Omega.{arith}
 use native.Mathlib.Decide.{dec_lt}
 use lib.IntN.{ℤ, pos, negsuc, neg_ℤ, nat_abs, sub_ℕ, ◌-ℤ◌, +ℤ_idr}
 use lib.Signed.{le_z, lt_z}
-use borrow.Author.Tests.{ltb-true, lt-ltb, le-ltb}
+use borrow.Author.Tests.{lt-ltb, le-ltb}
 use Rattle.weak_orders.specs.Says.{Says}
 use Rattle.weak_orders.proofs.Tests.{says_as, same_test, says_le, says_lt, says_not}
 
@@ -106,11 +106,6 @@ le_not_lt (negsuc a) (negsuc b) = same_test (says_le b a) (says_as (says_not (sa
 pub says_le_difference : (p q p' q' : ℕ) → Says (le_z (sub_ℕ p q) (sub_ℕ p' q')) (p + q' ≤ p' + q)
 says_le_difference p q p' q' = rw (le_not_lt (sub_ℕ p q) (sub_ℕ p' q'))
     (says_as (says_not (says_lt_difference p' q' p q)) (λ h. omega arith) (λ h. λ l. omega arith))
-
--- by the sign: how far from zero a negative number is, and what any other is
-pub zero_sub_negative : (z : ℤ) → lt_z z (pos 0) ≡ true → pos 0 -ℤ z ≡ pos (nat_abs z)
-zero_sub_negative (pos n) e = absurd (let l : n < 0 = ltb-true n 0 e in omega arith)
-zero_sub_negative (negsuc n) e = ap pos (zero-add (suc n))
 
 pub pos_abs : (z : ℤ) → lt_z z (pos 0) ≡ false → z ≡ pos (nat_abs z)
 pos_abs (pos n) e = refl

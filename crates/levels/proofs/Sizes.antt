@@ -10,7 +10,7 @@ use lib.IntN.{ℤ, pos, negsuc, neg_ℤ, nat_abs, sub_ℕ, ◌-ℤ◌}
 use lib.ListN.{get_or}
 use lib.Signed.{mag}
 use mir.Facts.{to_z-of_z}
-use mir.Syntax.{w16}
+use mir.Syntax.{Width, w16}
 use mir.Val.{Val, Fits, SFits, to_z, of_z}
 use denote.Array.{each}
 use denote.Builtin.{Array, i16}
@@ -99,10 +99,10 @@ setting_top_fits n s t = by_test (on_table s)
     rw (abs_zero s.top z) (record { sfits = omega arith }))
     (λ e. top_fits s.top ((says_and (says_itself (top_ok s.top)) (says_itself _)).to (rw e at t)).0)
 
--- a top is 0 just if its bits are
-pub zero_bits : (z : ℤ) → SFits w16 z → eqb (of_z w16 z) 0 ≡ eqb (nat_abs z) 0
-zero_bits z f = same_test (says_eq (of_z w16 z) 0) (says_as (says_eq (nat_abs z) 0) (λ e. ap (of_z w16) (abs_zero z e))
-    (λ e. ap nat_abs (sym (to_z-of_z f) ∙ ap (to_z w16) e)))
+-- a number is 0 just if its bits are
+pub zero_bits : (w : Width) → to_z w 0 ≡ pos 0 → (z : ℤ) → SFits w z → eqb (of_z w z) 0 ≡ eqb (nat_abs z) 0
+zero_bits w none z f = same_test (says_eq (of_z w z) 0) (says_as (says_eq (nat_abs z) 0) (λ e. ap (of_z w) (abs_zero z e))
+    (λ e. ap nat_abs (sym (to_z-of_z f) ∙ ap (to_z w) e ∙ none)))
 
 -- An element of an array of i16 fits, at any index, since past the end `get_or` gives 0: for `search`, which has it of unsigned elements only.
 each_fits : (t : List ℤ) (us : List Val) (i : ℕ) → shadow (each ℤ (SInt w16).own_val t us) → SFits w16 (get_or t i (pos 0))

@@ -1,25 +1,22 @@
 -- Level tables: their tests entry by entry, and that a table which passes falls from any entry to any later one. Assumes nothing.
-use mathlib.Core.Bool.{Bool, true, false, not, ◌&&◌}
+use mathlib.Core.Bool.{Bool, true, false, false≢true}
 use mathlib.Core.List.{List, [], ◌∷◌}
-use mathlib.Core.Path.{◌≡◌, refl, ap, ◌∙◌}
-use Prim.Native.Nat.{ℕ, zero, suc, ◌+◌, ◌-◌, ◌%◌, ◌≤◌, ◌<◌}
-use native.Mathlib.Nat.{div-add-mod', mod-lt}
-use native.Mathlib.Numerals.{add-one}
+use mathlib.Core.Path.{◌≡◌, refl, sym, ◌∙◌}
+use Prim.Native.Nat.{ℕ, zero, suc, ◌+◌, ◌%◌, ◌≤◌, ◌<◌}
+use native.Mathlib.Numerals.{add-one, unary_clauses}
 use native.Mathlib.Omega.{arith}
-use native.Mathlib.Decide.{dec_lt}
-use lib.Dec.{eqb}
-use lib.IntN.{ℤ, pos, negsuc, nat_abs, ◌+ℤ◌}
-use lib.ListN.{length, get_or, drop, drop_of_length-le}
-use lib.Seq.{drop-cons}
-use lib.Signed.{le_z, lt_z}
+use lib.IntN.{ℤ, pos, negsuc, nat_abs, neg_ℤ}
+use lib.ListN.{length, get_or}
+use lib.Signed.{le_z, lt_z, rem_z}
 use mir.Syntax.{w16}
 use mir.Val.{SFits}
 use borrow.Author.Tests.{leb-true}
+use Rattle.std.specs.List.{IsAllAdjacentAnswer}
 use Rattle.weak_orders.specs.Says.{Says}
 use Rattle.weak_orders.specs.Window.{all}
-use Rattle.weak_orders.proofs.Tests.{says_and, says_as, says_eq, says_itself, says_le, same_test}
+use Rattle.weak_orders.proofs.Tests.{by_test, says_and, says_as, says_eq, says_itself}
 use Rattle.levels.specs.Table.{is_multiple, level_allowed, falls_from, falls, table_ok}
-use Rattle.levels.proofs.Differences.{ge_difference, as_difference, le_not_lt, says_lt_difference}
+use Rattle.levels.proofs.Differences.{as_difference, says_lt_difference}
 
 lt_trans : (x y z : ℤ) → lt_z x y ≡ true → lt_z y z ≡ true → lt_z x z ≡ true
 lt_trans x y z l m =
@@ -53,33 +50,20 @@ entries_fall (x ∷ t) f i zero l h = absurd (omega arith)
 entries_fall (x ∷ t) f zero (suc j) l h = below_first x t f j (omega arith)
 entries_fall (x ∷ t) f (suc i) (suc j) l h = entries_fall t (falls-tail x t f) i j (omega arith) (omega arith)
 
--- ---- the order from an entry on
+-- ---- the order, by each entry and the next
 
-not-not : (b : Bool) → not (not b) ≡ b
-not-not true = refl
-not-not false = refl
+falls_of : (t : List ℤ) → ((k : ℕ) → k + 1 < length t → lt_z (get_or t (k + 1) (pos 0)) (get_or t k (pos 0)) ≡ true) → falls t ≡ true
+unfolding falls falls_from
+falls_of [] h = refl
+falls_of (x ∷ []) h = refl
+falls_of (x ∷ y ∷ t) h =
+    (says_and (says_itself (lt_z y x)) (says_itself (falls (y ∷ t)))).of (h 0 (omega arith), falls_of (y ∷ t) (λ k l. rw add-one (simp unary_clauses at (h (suc k) (omega arith)))))
 
-module _ (t : List ℤ) (d : ℕ) where
-  module _ (h : d + 1 < length t) where
-    falls_on : falls (drop d t) ≡ (lt_z (get_or t (d + 1) (pos 0)) (get_or t d (pos 0)) && falls (drop (d + 1) t))
-    unfolding falls falls_from
-    falls_on = rw (drop-cons t d (pos 0) (omega arith), ← add-one d, drop-cons t (d + 1) (pos 0) h)
-
-    turned : not (le_z (get_or t d (pos 0)) (get_or t (d + 1) (pos 0))) ≡ lt_z (get_or t (d + 1) (pos 0)) (get_or t d (pos 0))
-    turned = ap not (le_not_lt (get_or t d (pos 0)) (get_or t (d + 1) (pos 0))) ∙ not-not _
-
-    pub falls_no : le_z (get_or t d (pos 0)) (get_or t (d + 1) (pos 0)) ≡ true → falls (drop d t) ≡ false
-    falls_no e = falls_on ∙ rw (← turned, e)
-
-    pub falls_yes : le_z (get_or t d (pos 0)) (get_or t (d + 1) (pos 0)) ≡ false → falls (drop d t) ≡ falls (drop (d + 1) t)
-    falls_yes e = falls_on ∙ rw (← turned, e)
-
-  pub falls_end : length t ≤ d + 1 → falls (drop d t) ≡ true
-  unfolding falls falls_from
-  falls_end h = elim (dec_lt d (length t)) [
-    | yes l ↦ rw (drop-cons t d (pos 0) l, drop_of_length-le t {i = suc d} (omega arith))
-    | no l ↦ rw (drop_of_length-le t {i = d} (omega arith))
-  ]
+pub falls_sorted : (t : List ℤ) (r : Bool) → IsAllAdjacentAnswer (λ x y b. b ≡ lt_z y x) t r → r ≡ falls t
+falls_sorted t true h = sym (falls_of t (λ k l. sym (h k (pos 0) l)))
+falls_sorted t false (k, l, e) = by_test (falls t)
+    (λ f. absurd (false≢true (e (pos 0) ∙ entries_fall t f k (k + 1) (omega arith) l)))
+    (λ f. sym f)
 
 -- ---- a table as a whole
 
@@ -105,25 +89,11 @@ allowed_fits (negsuc k) e = record { sfits = omega (arith, allowed_size (negsuc 
 
 -- ---- one level
 
--- A level of the range, as its distance from -12000: 12000 is a multiple of 25, so that both are or neither is.
-pub raised : (z : ℤ) → (le_z (negsuc 11999) z && le_z z (pos 2000)) ≡ true →
-    (m : ℕ) × (z +ℤ pos 12000 ≡ pos m) × (m ≤ 14000) × (eqb (m % 25) 0 ≡ is_multiple z)
-raised (pos n) range =
-    let le = leb-true n 2000 range in (
-      n + 12000,
-      refl,
-      omega arith,
-      same_test (says_eq ((n + 12000) % 25) 0) (says_as (says_eq (n % 25) 0)
-          (λ e. omega (arith, div-add-mod' n 25, div-add-mod' (n + 12000) 25, mod-lt (n + 12000) {m = 25} (omega arith)))
-          (λ e. omega (arith, div-add-mod' n 25, div-add-mod' (n + 12000) 25, mod-lt n {m = 25} (omega arith)))),
-    )
-raised (negsuc k) range =
-    let (le, _) = (says_and (says_le k 11999) (says_itself true)).to range in
-    let m = 12000 - suc k in (
-      m,
-      ge_difference 12000 (suc k) (omega arith),
-      omega arith,
-      same_test (says_eq (m % 25) 0) (says_as (says_eq (suc k % 25) 0)
-          (λ e. omega (arith, div-add-mod' (suc k) 25, div-add-mod' m 25, mod-lt m {m = 25} (omega arith)))
-          (λ e. omega (arith, div-add-mod' (suc k) 25, div-add-mod' m 25, mod-lt (suc k) {m = 25} (omega arith)))),
-    )
+abs_neg : (m : ℕ) → nat_abs (neg_ℤ (pos m)) ≡ m
+abs_neg zero = refl
+abs_neg (suc k) = refl
+
+-- the remainder has the sign of what is divided
+pub abs_rem : (z : ℤ) (m : ℕ) → nat_abs (rem_z z (pos m)) ≡ nat_abs z % m
+abs_rem (pos n) m = refl
+abs_rem (negsuc k) m = abs_neg (suc k % m)

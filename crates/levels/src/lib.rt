@@ -1,5 +1,5 @@
 // The level setting of a round, and the level of a symbol. The only crate that knows how a level is made.
-// Rests on weak_orders for test 6, and on successors for the form that a rule's windows have.
+// Rests on weak_orders for test 6, and on successors for the form that a rule's windows have. `as` narrows a product or an index that its types bound.
 #![tactic(auto)]
 
 pub mod table;
@@ -23,9 +23,9 @@ pub fn setting_of(top: i16, spacing: u16) -> Setting
     ensures { result ≡ setting_of top spacing }
 {
     Setting {
-        top: top,
-        spacing: spacing,
-        table: [0i16; 16],
+        top,
+        spacing,
+        table: [0; 16],
     }
 }
 
@@ -33,32 +33,26 @@ pub fn setting_of(top: i16, spacing: u16) -> Setting
 pub fn on_table(setting: Setting) -> bool
     ensures { result ≡ on_table setting }
 {
-    let top = setting.top;
-    let spacing = setting.spacing;
-    (top == 0) & (spacing == 0)
+    setting.top == 0 && setting.spacing == 0
 }
 
 // How many spacings below the top a symbol stands.
 fn spacings_of(rule: u8, symbol: u8) -> u8
     ensures { result ≡ spacings rule symbol }
 {
-    if rule != 1 {
-        return symbol;
+    if rule == 1 {
+        symbol.saturating_sub(1)
+    } else {
+        symbol
     }
-    if symbol == 0 {
-        return 0;
-    }
-    symbol - 1
 }
 
 // `count` spacings below the top, not rounded. The product is unsigned, so that one signed operation is left.
 fn lowered(setting: Setting, count: u8) -> i32
     ensures { result ≡ lowered setting count }
 {
-    let top = setting.top;
-    let spacing = setting.spacing;
-    let drop = (count as u32) * (spacing as u32);
-    (top as i32) - (drop as i32)
+    let drop = u32::from(count) * u32::from(setting.spacing);
+    i32::from(setting.top) - drop as i32
 }
 
 // The multiple of 25 nearest to a number.
@@ -74,36 +68,33 @@ fn rounded(z: i32) -> i32
     requires { mag z < 2 ^ 25 }
     ensures { result ≡ rounded z }
 {
-    if z < 0 {
-        let below = nearest((0 - z) as u32);
-        return 0 - (below as i32);
-    }
-    nearest(z as u32) as i32
+    let size = nearest(z.unsigned_abs()) as i32;
+    if z < 0 { -size } else { size }
 }
 
 // The level of a symbol, in hundredths of a dBm: the table's entry, or rounded once, from the exact value.
 pub fn level(rule: u8, setting: Setting, symbol: u8) -> i32
     ensures { result ≡ level_of rule setting symbol }
 {
-    let table = setting.table;
     let d = spacings_of(rule, symbol);
     if on_table(setting) {
-        return table::entry(table, d);
+        table::entry(setting.table, d)
+    } else {
+        rounded(lowered(setting, d))
     }
-    rounded(lowered(setting, d))
 }
 
 // Test 9 on the top alone, and on the spacing alone. They are wider than in a setting, for values that are not narrowed yet.
 pub fn top_ok(top: i32) -> bool
     ensures { result ≡ top_ok top }
 {
-    (-10000 <= top) & (top <= 2000)
+    (-10000..=2000).contains(&top)
 }
 
 pub fn spacing_ok(spacing: u32) -> bool
     ensures { result ≡ spacing_ok spacing }
 {
-    (25 <= spacing) & (spacing <= 500)
+    (25..=500).contains(&spacing)
 }
 
 // Test 9, for a number of symbols that passes test 6.
@@ -113,12 +104,9 @@ pub fn setting_ok(n: usize, setting: Setting) -> bool
     if !weak_orders::is_length(n) {
         return false;
     }
-    let top = setting.top;
-    let spacing = setting.spacing;
-    let table = setting.table;
     if on_table(setting) {
-        return table::table_ok(table);
+        return table::table_ok(setting.table);
     }
     let lowest = lowered(setting, (n - 1) as u8);
-    top_ok(top as i32) & (spacing_ok(spacing as u32) & (-12000 <= lowest))
+    top_ok(i32::from(setting.top)) && spacing_ok(u32::from(setting.spacing)) && -12000 <= lowest
 }

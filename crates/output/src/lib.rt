@@ -7,7 +7,7 @@ ghost use Rattle.std.specs.Io.KnownBytes.{Appends};
 use std::io;
 use std::io::{ErrorKind, Write};
 
-// How many bytes went, and why no more did, if not all.
+// How many bytes went, and why no more did, if not all. No `Result`: the bytes that went count where a write failed, too.
 #[derive(Clone, Copy, Debug)]
 pub struct Written {
     pub len: usize,
@@ -33,7 +33,7 @@ fn write_once<W: Write>(output: &mut W, bytes: &[u8]) -> Written
     }
 }
 
-// Writes until all is written or a write fails.
+// Writes until all is written or a write fails. No index is counted: a turn adds what its write took. `input::fill` reads so, and says other things.
 pub fn put<W: Write>(output: &mut W, bytes: &[u8]) -> Written
     ensures bytes { Appends (W.contents output.old) (W.contents output.new) (take result.len bytes.now) }
     ensures whole { IsNone result.failed → result.len ≡ length bytes.now }

@@ -26,14 +26,14 @@ use Rattle.printing.proofs.Written.{wrote_none, wrote_then, wrote_length}
 -- ---- a state that can be stepped
 
 abbrev pub Steps : Printing → Type 0
-Steps p = Steppable p.rule p.n p.window
+Steps p = Steppable p.round.rule p.round.n p.round.window
 
 -- the window after a step
-pub onward-stepped : (p : Printing) → Steps p → length p.window ≡ 16 → Stepped p.rule p.n p.window (onward p).window
+pub onward-stepped : (p : Printing) → Steps p → length p.round.window ≡ 16 → Stepped p.round.rule p.round.n p.round.window (onward p).round.window
 unfolding onward
 onward-stepped p s long = stepped long s refl
 
-pub onward_sized : (p q : Printing) → q ≡ onward p → Steps p → is_length q.n ≡ true
+pub onward_sized : (p q : Printing) → q ≡ onward p → Steps p → is_length q.round.n ≡ true
 unfolding onward
 onward_sized p q e s = rw e s.1.0
 
@@ -69,10 +69,10 @@ pub record Filling (p : Printing) (out : List ℕ) (now : Printing) (len : ℕ) 
   pub wrote : Wrote out 0 text len out'
   pub room : length text ≤ length out
   pub steps : Steps now
-  pub long : length now.window ≡ 16
+  pub long : length now.round.window ≡ 16
   pub rest : page_of (p.last - p.done) (length out) p ≡ below text (page_of (now.last - now.done) (length out - length text) now)
 
-pub filling_none : (p : Printing) (out : List ℕ) → Steps p → length p.window ≡ 16 → Filling p out p 0 out
+pub filling_none : (p : Printing) (out : List ℕ) → Steps p → length p.round.window ≡ 16 → Filling p out p 0 out
 filling_none p out s l = record {
   text = [];
   wrote = wrote_none out 0;
@@ -111,7 +111,7 @@ module _ {p : Printing} {out : List ℕ} {now : Printing} {len : ℕ} {out' : Li
       length (last_line q) ≤ 128 → Wrote out' len (last_line q) len' out'' → Filling p out q len' out''
   filling_on q e d h b w = rw e (one_more d h (rw e at b) (rw e at w))
 
-  pub filling_over : steppable p.rule p.n p.window ≡ true → (ltb now.done now.last && leb 128 (length out' - len)) ≡ false →
+  pub filling_over : steppable p.round.rule p.round.n p.round.window ≡ true → (ltb now.done now.last && leb 128 (length out' - len)) ≡ false →
       (record { printing = now; len = len }, out') ≡ next_page p out
   unfolding next_page page_in laid_out over below written
   filling_over t e =
@@ -128,15 +128,15 @@ module _ {p : Printing} {out : List ℕ} {now : Printing} {len : ℕ} {out' : Li
 -- ---- a line, and the opening
 
 -- the newest symbol of a window in an array
-pub last_line_lem : (p : Printing) → is_length p.n ≡ true → length p.window ≡ 16 → (symbol : ℕ) (level : ℤ) →
-    symbol ≡ get_or p.window (p.n - 1) 0 → level ≡ level_of p.rule p.setting symbol →
-    line_text p.done symbol level (take p.n p.window) ≡ last_line p
+pub last_line_lem : (p : Printing) → is_length p.round.n ≡ true → length p.round.window ≡ 16 → (symbol : ℕ) (level : ℤ) →
+    symbol ≡ get_or p.round.window (p.round.n - 1) 0 → level ≡ level_of p.round.rule p.round.setting symbol →
+    line_text p.done symbol level (take p.round.n p.round.window) ≡ last_line p
 unfolding last_line step_line newest
 last_line_lem p e long symbol level s l =
-    let (pos, few) = (says_length p.n).to e in
-    let size = length-take-le p.n p.window (omega arith) in
-    let new : get_or (take p.n p.window) (length (take p.n p.window) - 1) 0 ≡ symbol =
-    rw size (get_or-take p.n p.window (p.n - 1) 0 (omega arith) ∙ sym s) in
+    let (pos, few) = (says_length p.round.n).to e in
+    let size = length-take-le p.round.n p.round.window (omega arith) in
+    let new : get_or (take p.round.n p.round.window) (length (take p.round.n p.round.window) - 1) 0 ≡ symbol =
+    rw size (get_or-take p.round.n p.round.window (p.round.n - 1) 0 (omega arith) ∙ sym s) in
     rw (new, l)
 
 pub wrote_over : {out t out' : List ℕ} {next : ℕ} → Wrote out 0 t next out' → ◌≡◌ {A = ℕ × List ℕ} (next, out') (length t, over t out)

@@ -26,12 +26,11 @@ use Rattle.refusals.specs.declared.Cause.TheVariants.{WindowLength, RuleNumber, 
 use Rattle.levels.specs.Level.{setting_of, setting_ok}
 use Rattle.levels.proofs.WindowLevels.{levels_ok}
 use Rattle.sheets.specs.declared.judge.Round.{Round}
-use Rattle.refusals.specs.declared.Verdict.TheVariants.{Accepted}
-use Rattle.sheets.specs.declared.judge.Judged.{Judged}
+use Rattle.std.specs.Prelude.{Result, Ok, Err}
 use Rattle.printing.specs.declared.Printing.{Printing}
 use Rattle.sheets.specs.Sheet.{RawSheet, parse}
-use Rattle.sheets.specs.Judgement.{round_of, refusal, judged, judged_sheet, judged_text}
-use Rattle.printing.specs.Printing.{round_line, round_lines, opening_text, steps_of, printed_text, line_count, started, onward, last_line}
+use Rattle.sheets.specs.Judgement.{round_of, judged, judged_sheet, judged_text}
+use Rattle.printing.specs.Printing.{round_line, round_lines, opening_text, steps_of, lines_of, printed_text, started, onward, last_line}
 use Rattle.printing.specs.Printing.{Printed, below, page_of, page_in}
 use Rattle.printing.specs.Claims.{pages, Claims}
 use Rattle.sheets.proofs.Judging.{in_bounds}
@@ -42,13 +41,13 @@ use Rattle.printing.proofs.Filling.{Steps, onward-stepped}
 
 -- k of `last` steps of the round r are done
 pub record At (r : Round) (last k : ℕ) (p : Printing) : Type 0 where
-  pub rule : p.rule ≡ r.rule
-  pub setting : p.setting ≡ r.setting
-  pub window : take p.n p.window ≡ iter (step (rule_of r.rule)) k (take r.n r.window)
+  pub rule : p.round.rule ≡ r.rule
+  pub setting : p.round.setting ≡ r.setting
+  pub window : take p.round.n p.round.window ≡ iter (step (rule_of r.rule)) k (take r.n r.window)
   pub done : p.done ≡ k
   pub end : p.last ≡ last
   pub steps : Steps p
-  pub long : length p.window ≡ 16
+  pub long : length p.round.window ≡ 16
 
 module _ {r : Round} {last k : ℕ} {p : Printing} (at : At r last k p) where
   at_onward : At r last (suc k) (onward p)
@@ -117,7 +116,7 @@ pages_join {r} {last} {k} {p} (room ∷ rooms) h at =
     let (q, t) = page_of (p.last - p.done) room p in
     let one = page_reaches (p.last - p.done) room at in
     let more = pages_join {k = one.to} rooms (omega (arith, one.most)) one.at in
-    rw ((says_steppable p.rule p.n p.window).of at.steps) (record {
+    rw ((says_steppable p.round.rule p.round.n p.round.window).of at.steps) (record {
       to = more.to;
       at = more.at;
       text = sym (append_assoc (round_lines r k) t (pages rooms q).1) ∙ ap (λ l. l ++ (pages rooms q).1) one.text ∙ more.text;
@@ -130,9 +129,9 @@ pages_join {r} {last} {k} {p} (room ∷ rooms) h at =
 
 -- ---- what becomes of a text
 
-data Outcome (j : Judged) : Type 0 where
-  turned_down : (c : Cause) → j ≡ refusal c → Outcome j
-  taken : (x : RawSheet) → j ≡ record { verdict = Accepted; round = round_of x } → (1 ≤ x.n) × (x.n ≤ 8) → is_rule x.rule ≡ true →
+data Outcome (j : Result Round Cause) : Type 0 where
+  turned_down : (c : Cause) → j ≡ Err c → Outcome j
+  taken : (x : RawSheet) → j ≡ Ok (round_of x) → (1 ≤ x.n) × (x.n ≤ 8) → is_rule x.rule ≡ true →
       (length x.start ≡ x.n) × (in_form x.rule x.start ≡ true) → setting_ok x.n (setting_of x.top x.spacing) ≡ true → Outcome j
 
 sheet_outcome : (x : RawSheet) → Outcome (judged x)
@@ -158,24 +157,24 @@ outcome s = go (parse s)
 -- ---- what is printed for it
 
 -- a refused sheet has no lines
-idle : (p : Printing) → steppable p.rule p.n p.window ≡ false → (rooms : List ℕ) → pages rooms p ≡ (p, [])
+idle : (p : Printing) → steppable p.round.rule p.round.n p.round.window ≡ false → (rooms : List ℕ) → pages rooms p ≡ (p, [])
 unfolding pages page_in below
 idle p e [] = refl
 idle p e (room ∷ rooms) = rw (e, idle p e rooms)
 
-no_lines : (c : Cause) (rooms : List ℕ) → pages rooms (started (refusal c)) ≡ (started (refusal c), [])
+no_lines : (c : Cause) (rooms : List ℕ) → pages rooms (started (Err c)) ≡ (started (Err c), [])
 unfolding steppable started is_rule
-no_lines c rooms = idle (started (refusal c)) refl rooms
+no_lines c rooms = idle (started (Err c)) refl rooms
 
-nothing : (c : Cause) → (started (refusal c)).done ≡ (started (refusal c)).last
-unfolding started line_count steps_of
+nothing : (c : Cause) → (started (Err c)).done ≡ (started (Err c)).last
+unfolding started
 nothing c = refl
 
 -- an accepted one starts its round
 at_start : (x : RawSheet) → (1 ≤ x.n) × (x.n ≤ 8) → is_rule x.rule ≡ true →
     (length x.start ≡ x.n) × (in_form x.rule x.start ≡ true) →
-    At (round_of x) (a x.n) 0 (started (record { verdict = Accepted; round = round_of x }))
-unfolding started round_of line_count steps_of iter
+    At (round_of x) (a x.n) 0 (started (Ok (round_of x)))
+unfolding started round_of iter
 at_start x (pos, few) known (size, form) =
     let kept = take-padded x.start x.n size in
     record {
@@ -188,17 +187,17 @@ at_start x (pos, few) known (size, form) =
       long = length-padded x.start (omega arith);
     }
 
-all_printed : (j : Judged) → Outcome j → (rooms : List ℕ) → (pages rooms (started j)).0.done ≡ (pages rooms (started j)).0.last →
-    (pages rooms (started j)).1 ≡ round_lines j.round (steps_of j.verdict j.round.n)
-unfolding round_lines steps_of round_of
+all_printed : (j : Result Round Cause) → Outcome j → (rooms : List ℕ) → (pages rooms (started j)).0.done ≡ (pages rooms (started j)).0.last →
+    (pages rooms (started j)).1 ≡ lines_of j
+unfolding round_lines lines_of round_of
 all_printed j (turned_down c e) rooms d = rw (e, no_lines c rooms)
 all_printed j (taken x e n r s l) rooms d =
     let all = pages_join rooms (omega arith) (at_start x n r s) in
     let last : all.to ≡ a x.n = sym all.at.done ∙ (rw e at d) ∙ all.at.end in
     rw e (all.text ∙ ap (round_lines (round_of x)) last)
 
-all_done : (j : Judged) → Outcome j → (rooms : List ℕ) → ((room : ℕ) → room ∈ rooms → 128 ≤ room) →
-    steps_of j.verdict j.round.n ≤ length rooms → (pages rooms (started j)).0.done ≡ (pages rooms (started j)).0.last
+all_done : (j : Result Round Cause) → Outcome j → (rooms : List ℕ) → ((room : ℕ) → room ∈ rooms → 128 ≤ room) →
+    steps_of j ≤ length rooms → (pages rooms (started j)).0.done ≡ (pages rooms (started j)).0.last
 unfolding steps_of round_of
 all_done j (turned_down c e) rooms h m = rw (e, no_lines c rooms) (nothing c)
 all_done j (taken x e n r s l) rooms h m =
@@ -207,22 +206,24 @@ all_done j (taken x e n r s l) rooms h m =
     rw e (all.at.done ∙ all.enough h (omega arith) ∙ sym all.at.end)
 
 -- an accepted one tours the weak orders of at most sixteen symbols, under a setting that passes test 9
-in_round : (j : Judged) → Outcome j → j.verdict ≡ Accepted → let r = j.round in
+in_round : (j : Result Round Cause) → Outcome j → (r : Round) → j ≡ Ok r →
     Tour (WeakOrder r.n r.rule) (step (rule_of r.rule)) (a r.n) (take r.n r.window)
     × ((is_length r.n ≡ true) × (setting_ok r.n r.setting ≡ true))
 unfolding round_of
-in_round j (turned_down c e) v = absurd (let z : ◌≡◌ {A = ℕ} 0 1 = cc (ap (λ (j : Judged). j.verdict) e) in omega arith)
-in_round j (taken x e (pos, few) r (size, form) l) v =
+in_round j (turned_down c e) r v = absurd (let z : ◌≡◌ {A = Result Round Cause} (Err c) (Ok r) = sym e ∙ v in cc)
+in_round j (taken x e (pos, few) known (size, form) l) r v =
+    let q : ◌≡◌ {A = Result Round Cause} (Ok r) (Ok (round_of x)) = sym v ∙ e in
+    let p : r ≡ round_of x = cc in
     let kept = take-padded x.start x.n size in
-    rw (e, kept) (universal_cycle x.rule r x.n pos x.start (size, form), ((says_length x.n).of (pos, omega arith), l))
+    rw (p, kept) (universal_cycle x.rule known x.n pos x.start (size, form), ((says_length x.n).of (pos, omega arith), l))
 
 pub claims : Claims
 unfolding printed_text iter
 claims = record {
   reads = reads_as;
-  prints = λ s rooms d. ap (λ t. opening_text (judged_text s).verdict ++ t) (all_printed (judged_text s) (outcome s) rooms d);
+  prints = λ s rooms d. ap (λ t. opening_text (judged_text s) ++ t) (all_printed (judged_text s) (outcome s) rooms d);
   ends = λ s rooms h m. all_done (judged_text s) (outcome s) rooms h m;
-  each = λ s v. (in_round (judged_text s) (outcome s) v).0;
-  levels = λ s v k. let (tour, (long, ok)) = in_round (judged_text s) (outcome s) v in levels_ok _ _ _ _ long ok (tour.kept k);
-  starts = λ s t v w n r. between (in_round (judged_text s) (outcome s) v).0 _ (rw (n, r) ((in_round (judged_text t) (outcome t) w).0.kept 0));
+  each = λ s r v. (in_round (judged_text s) (outcome s) r v).0;
+  levels = λ s r v k. let (tour, (long, ok)) = in_round (judged_text s) (outcome s) r v in levels_ok _ _ _ _ long ok (tour.kept k);
+  starts = λ s t r q v w n e. between (in_round (judged_text s) (outcome s) r v).0 _ (rw (n, e) ((in_round (judged_text t) (outcome t) q w).0.kept 0));
 }

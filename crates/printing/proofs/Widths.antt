@@ -69,11 +69,11 @@ line_width k symbol level w hk hs hl hw all =
 -- what the fields of a state can hold
 pub record Held (p : Printing) : Type 0 where
   pub done : p.done < 2 ^ 64
-  pub top : mag p.setting.top ≤ 32768
-  pub spacing : p.setting.spacing < 65536
-  pub entries : (d : ℕ) → mag (entry p.setting.table d) ≤ 32768
-  pub long : length p.window ≡ 16
-  pub symbols : (i : ℕ) → get_or p.window i 0 < 256
+  pub top : mag p.round.setting.top ≤ 32768
+  pub spacing : p.round.setting.spacing < 65536
+  pub entries : (d : ℕ) → mag (entry p.round.setting.table d) ≤ 32768
+  pub long : length p.round.window ≡ 16
+  pub symbols : (i : ℕ) → get_or p.round.window i 0 < 256
 
 symbol_below : (w : List ℕ) (n i : ℕ) → ((i : ℕ) → get_or w i 0 < 256) → get_or (take n w) i 0 < 256
 symbol_below w n i h = elim (dec_lt i n) [
@@ -84,8 +84,8 @@ symbol_below w n i h = elim (dec_lt i n) [
 pub last_line_width : (p : Printing) → Held p → length (last_line p) ≤ 128
 unfolding last_line step_line newest
 last_line_width p h =
-    let w = take p.n p.window in
-    let s = symbol_below p.window p.n (length w - 1) h.symbols in
-    line_width p.done (newest w) (level_of p.rule p.setting (newest w)) w h.done s
-    (level_size p.rule p.setting (newest w) h.top h.spacing h.entries s) (omega (arith, length-take p.n p.window, h.long))
-    (λ v m. let (i, _, e) = in_get_or 0 (mem_take p.n p.window v m) in rw (← e) (h.symbols i))
+    let w = take p.round.n p.round.window in
+    let s = symbol_below p.round.window p.round.n (length w - 1) h.symbols in
+    line_width p.done (newest w) (level_of p.round.rule p.round.setting (newest w)) w h.done s
+    (level_size p.round.rule p.round.setting (newest w) h.top h.spacing h.entries s) (omega (arith, length-take p.round.n p.round.window, h.long))
+    (λ v m. let (i, _, e) = in_get_or 0 (mem_take p.round.n p.round.window v m) in rw (← e) (h.symbols i))

@@ -1,18 +1,16 @@
 -- What is printed (document 01, "The printed round"): a line for each step of the round, or the refusal.
-use Rattle.std.specs.Prelude.{cond, List, [], ◌++◌, ℕ, zero, suc, ◌+◌, ◌-◌, leb, ltb, ℤ, length, take, drop}
+use Rattle.std.specs.Prelude.{cond, List, [], ◌++◌, ℕ, zero, suc, ◌+◌, ◌-◌, leb, ltb, ℤ, pos, length, take, drop, replicate, Result, Ok, Err}
 use Rattle.weak_orders.specs.Window.{iter, padded}
 use Rattle.ranking.specs.Counts.{a}
 use Rattle.successors.specs.NextSymbol.{steppable}
 use Rattle.successors.specs.Rules.{rule_of, step}
 use Rattle.refusals.specs.Numbers.{cause_number}
 use Rattle.levels.specs.declared.Setting.{Setting}
-use Rattle.levels.specs.Level.{level_of}
+use Rattle.levels.specs.Level.{setting_of, level_of}
 use Rattle.frames.specs.Fields.{ascii}
 use Rattle.frames.specs.Answer.{newest}
 use Rattle.sheets.specs.declared.judge.Round.{Round}
-use Rattle.refusals.specs.declared.Verdict.{Verdict}
-use Rattle.refusals.specs.declared.Verdict.TheVariants.{Accepted, Refused}
-use Rattle.sheets.specs.declared.judge.Judged.{Judged}
+use Rattle.refusals.specs.declared.Cause.{Cause}
 use Rattle.printing.specs.declared.Printing.{Printing}
 use Rattle.printing.specs.declared.Page.{Page}
 use Rattle.decimals.specs.Text.{decimal, signed, joined}
@@ -46,47 +44,51 @@ heading = ascii "step symbol level window\n"
 abbrev pub refused_line : List ℕ
 refused_line = ascii "refused\n"
 
-unfoldable pub opening_text : Verdict → List ℕ
-opening_text Accepted = heading
-opening_text (Refused cause) = refused_line ++ (decimal (cause_number cause) ++ ascii "\n")
+unfoldable pub opening_text : {A : Type 0} → Result A Cause → List ℕ
+opening_text (Ok _) = heading
+opening_text (Err cause) = refused_line ++ (decimal (cause_number cause) ++ ascii "\n")
 
 -- how many steps are printed: a(n) where the sheet is accepted
-unfoldable pub steps_of : Verdict → ℕ → ℕ
-steps_of Accepted n = a n
-steps_of (Refused cause) n = 0
+unfoldable pub steps_of : Result Round Cause → ℕ
+steps_of (Ok round) = a round.n
+steps_of (Err cause) = 0
+
+-- the lines of a round; a refused sheet has none
+unfoldable pub lines_of : Result Round Cause → List ℕ
+lines_of (Ok round) = round_lines round (a round.n)
+lines_of (Err cause) = []
 
 -- all that is printed for the text of a sheet
 unfoldable pub printed_text : List ℕ → List ℕ
-printed_text s =
-    let j = judged_text s in
-    opening_text j.verdict ++ round_lines j.round (steps_of j.verdict j.round.n)
+printed_text s = let j = judged_text s in opening_text j ++ lines_of j
 
 -- ---- in pages
 
--- before the first line. There are no windows of more than 16 symbols, and so no lines
-unfoldable pub line_count : Verdict → ℕ → ℕ
-line_count v n = cond (leb n 16) (steps_of v n) 0
+-- before the first line. There are no windows of more than 16 symbols, and so no lines; nor are there where the sheet is refused
+abbrev pub line_count : ℕ → ℕ
+line_count n = cond (leb n 16) (a n) 0
 
-unfoldable pub started : Judged → Printing
-started j =
-    let r = j.round in
-    record { n = r.n; rule = r.rule; setting = r.setting; window = r.window; done = 0; last = line_count j.verdict r.n }
+-- the round of a refused sheet
+abbrev pub no_round : Round
+no_round = record { n = 0; rule = 0; setting = setting_of (pos 0) 0; window = replicate 16 0 }
+
+unfoldable pub started : Result Round Cause → Printing
+started (Ok r) = record { round = r; done = 0; last = line_count r.n }
+started (Err cause) = record { round = no_round; done = 0; last = 0 }
 
 -- one step further
 unfoldable pub onward : Printing → Printing
 onward p =
+    let r = p.round in
     record {
-      n = p.n;
-      rule = p.rule;
-      setting = p.setting;
-      window = padded (step (rule_of p.rule) (take p.n p.window));
+      round = record { n = r.n; rule = r.rule; setting = r.setting; window = padded (step (rule_of r.rule) (take r.n r.window)) };
       done = p.done + 1;
       last = p.last;
     }
 
 -- the line of the step made last
 unfoldable pub last_line : Printing → List ℕ
-last_line p = step_line p.done p.rule p.setting (take p.n p.window)
+last_line p = step_line p.done p.round.rule p.round.setting (take p.round.n p.round.window)
 
 -- what a page holds, and where it leaves off
 abbrev pub Printed : Type 0
@@ -108,7 +110,7 @@ over text buffer = text ++ drop (length text) buffer
 
 -- the next page in a buffer. A state with no window in its rule's form stays as it is
 unfoldable pub page_in : ℕ → Printing → Printed
-page_in room p = cond (steppable p.rule p.n p.window) (page_of (p.last - p.done) room p) (p, [])
+page_in room p = cond (steppable p.round.rule p.round.n p.round.window) (page_of (p.last - p.done) room p) (p, [])
 
 unfoldable pub laid_out : Printed → List ℕ → Page × List ℕ
 laid_out (p, text) buffer = (record { printing = p; len = length text }, over text buffer)
@@ -117,5 +119,5 @@ unfoldable pub next_page : Printing → List ℕ → Page × List ℕ
 next_page p buffer = laid_out (page_in (length buffer) p) buffer
 
 -- the opening in a buffer of 128 bytes or more
-unfoldable pub opening : Verdict → List ℕ → ℕ × List ℕ
-opening v buffer = cond (ltb (length buffer) 128) (0, buffer) (length (opening_text v), over (opening_text v) buffer)
+unfoldable pub opening : {A : Type 0} → Result A Cause → List ℕ → ℕ × List ℕ
+opening x buffer = cond (ltb (length buffer) 128) (0, buffer) (length (opening_text x), over (opening_text x) buffer)

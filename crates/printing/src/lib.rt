@@ -9,24 +9,20 @@ ghost use Rattle.std.specs.Prelude.{true, ◌++◌, ◌≡◌, ◌+◌, ◌≤�
 ghost use Rattle.weak_orders.specs.Window.{is_length};
 ghost use Rattle.successors.specs.NextSymbol.{steppable};
 ghost use Rattle.printing.specs.Writing.{Wrote, Counts};
-ghost use Rattle.printing.specs.Printing.{line_text, line_count, opening, started, onward, last_line, next_page};
+ghost use Rattle.printing.specs.Printing.{line_text, no_round, opening, started, onward, last_line, next_page};
 
-use levels::Setting;
-use refusals::Verdict;
-use sheets::judge::Judged;
+use refusals::Cause;
+use sheets::judge::Round;
 
-// Where the printing of a round stands: the window after `done` of `last` steps.
+// Where the printing of a round stands: the round with the window after `done` of `last` steps.
 #[derive(Clone, Copy)]
 pub struct Printing {
-    pub n: usize,
-    pub rule: u8,
-    pub setting: Setting,
-    pub window: [u8; 16],
+    pub round: Round,
     pub done: u64,
     pub last: u64,
 }
 
-// Where it stands after a page, and how many bytes the page has.
+// Where it stands after a page, and how many bytes of the lent slice the page has.
 #[derive(Clone, Copy)]
 pub struct Page {
     pub printing: Printing,
@@ -49,39 +45,38 @@ fn put_row(
     requires { (1 ≤ n) × (n ≤ 16) × (at + length (line_text k symbol level (take n w)) ≤ length out.old) }
     ensures { Wrote out.old at (line_text k symbol level (take n w)) result out.new }
 {
-    let second = writer::put_decimal_field(out, at, k, 32);
-    let third = writer::put_decimal_field(out, second, symbol as u64, 32);
-    let fourth = writer::put_signed_field(out, third, level, 32);
-    writer::put_joined_field(out, fourth, w, n, 10)
+    let second = writer::put_decimal_field(out, at, k, b' ');
+    let third = writer::put_decimal_field(out, second, u64::from(symbol), b' ');
+    let fourth = writer::put_signed_field(out, third, level, b' ');
+    writer::put_joined_field(out, fourth, w, n, b'\n')
 }
 
-// How many lines follow the opening.
-fn line_count(verdict: Verdict, n: usize) -> u64
-    ensures { result ≡ line_count verdict n }
+fn no_round() -> Round
+    ensures { result ≡ no_round }
 {
-    match verdict {
-        Verdict::Accepted => ranking::weak_order_count(n),
-        Verdict::Refused(_) => 0,
+    Round {
+        n: 0,
+        rule: 0,
+        setting: levels::setting_of(0, 0),
+        window: [0u8; 16],
     }
 }
 
-// Before the first line.
-pub fn started(judged: Judged) -> Printing
+// Before the first line. A refused sheet has no lines.
+pub fn started(judged: Result<Round, Cause>) -> Printing
     ensures { result ≡ started judged }
 {
-    let round = judged.round;
-    let n = round.n;
-    let rule = round.rule;
-    let setting = round.setting;
-    let window = round.window;
-    let verdict = judged.verdict;
-    Printing {
-        n: n,
-        rule: rule,
-        setting: setting,
-        window: window,
-        done: 0,
-        last: line_count(verdict, n),
+    match judged {
+        Ok(round) => Printing {
+            round,
+            done: 0,
+            last: ranking::weak_order_count(round.n),
+        },
+        Err(_) => Printing {
+            round: no_round(),
+            done: 0,
+            last: 0,
+        },
     }
 }
 
@@ -97,56 +92,60 @@ fn put_front(text: &[u8], out: &mut [u8]) -> usize
 }
 
 // The heading of a round, or the refusal. A slice of under 128 bytes stays as it is.
-pub fn put_opening(verdict: Verdict, out: &mut [u8]) -> usize
-    ensures out_after { (result, out.new) ≡ opening verdict out.old }
+pub fn put_opening(told: Result<(), Cause>, out: &mut [u8]) -> usize
+    ensures out_after { (result, out.new) ≡ opening told out.old }
     ensures within { Counts result out.new }
 {
     if out.len() < LONGEST {
         return 0;
     }
-    match verdict {
-        Verdict::Accepted => put_front(b"step symbol level window\n", out),
-        Verdict::Refused(cause) => {
-            let number = refusals::number(cause);
+    match told {
+        Ok(()) => put_front(b"step symbol level window\n", out),
+        Err(cause) => {
+            let number = u8::from(cause);
             let at = put_front(b"refused\n", out);
-            writer::put_decimal_field(out, at, number as u64, 10)
+            writer::put_decimal_field(out, at, u64::from(number), b'\n')
         }
     }
 }
 
 // One step further.
 fn onward(p: Printing) -> Printing
-    requires { (steppable p.rule p.n p.window ≡ true) × (p.done < p.last) }
+    requires { (steppable p.round.rule p.round.n p.round.window ≡ true) × (p.done < p.last) }
     ensures { result ≡ onward p }
 {
-    let w = p.window;
-    let next = successors::step(p.rule, w, p.n);
-    let mut q = p;
-    q.window = next;
-    q.done = p.done + 1;
-    q
+    let round = p.round;
+    let next = successors::step(round.rule, round.window, round.n);
+    Printing {
+        round: Round {
+            window: next,
+            ..round
+        },
+        done: p.done + 1,
+        last: p.last,
+    }
 }
 
 // The line of the step made last.
 fn put_line(out: &mut [u8], at: usize, p: Printing) -> usize
-    requires { (is_length p.n ≡ true) × (at + length (last_line p) ≤ length out.old) }
+    requires { (is_length p.round.n ≡ true) × (at + length (last_line p) ≤ length out.old) }
     ensures { Wrote out.old at (last_line p) result out.new }
 {
-    let n = p.n;
-    let w = p.window;
-    let setting = p.setting;
+    let round = p.round;
+    let n = round.n;
+    let w = round.window;
     let symbol = w[n - 1];
-    let level = levels::level(p.rule, setting, symbol);
+    let level = levels::level(round.rule, round.setting, symbol);
     put_row(out, at, p.done, symbol, level, w, n)
 }
 
-// The lines that follow, as many as there are while 128 bytes are left.
+// The lines that follow, as many as there are while 128 bytes are left. No index is counted: how long a line is shows when it is written.
 pub fn next_page(p: Printing, out: &mut [u8]) -> Page
     ensures out_after { (result, out.new) ≡ next_page p out.old }
     ensures within { Counts result.len out.new }
 {
-    let w = p.window;
-    if !successors::can_step(p.rule, w, p.n) {
+    let round = p.round;
+    if !successors::can_step(round.rule, round.window, round.n) {
         return Page {
             printing: p,
             len: 0,
@@ -158,8 +157,5 @@ pub fn next_page(p: Printing, out: &mut [u8]) -> Page
         now = onward(now);
         len = put_line(out, len, now);
     }
-    Page {
-        printing: now,
-        len: len,
-    }
+    Page { printing: now, len }
 }

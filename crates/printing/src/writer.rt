@@ -1,5 +1,7 @@
 // Writers of decimals, of lists of them and of fields, into a lent slice. Each starts at an index and returns the index behind.
-ghost use Rattle.std.specs.Prelude.{[], ◌∷◌, ◌++◌, ◌≡◌, ◌+◌, ◌≤◌, ◌<◌, nat_abs, length, take, drop};
+// The slice and the index are two parameters: the lines of a round take longer to write where a struct holds them. Not `write!`: it answers a
+// `Result`, and these writers cannot fail.
+ghost use Rattle.std.specs.Prelude.{[], ◌∷◌, ◌++◌, ◌+◌, ◌≤◌, ◌<◌, length, take, drop};
 ghost use Rattle.decimals.specs.Text.{decimal, signed, commaed, joined};
 ghost use Rattle.printing.specs.Writing.{Wrote};
 
@@ -18,20 +20,10 @@ pub(crate) fn put_decimal(out: &mut [u8], at: usize, v: u64) -> usize
     ensures { Wrote out.old at (decimal v) result out.new }
 {
     if v < 10 {
-        return put(out, at, 48 + v as u8);
+        return put(out, at, b'0' + v as u8);
     }
     let next = put_decimal(out, at, v / 10);
-    put(out, next, 48 + (v % 10) as u8)
-}
-
-// How far a number is from zero.
-fn magnitude(z: i32) -> u64
-    ensures { result ≡ nat_abs z }
-{
-    if z < 0 {
-        return (0 - (z as i64)) as u64;
-    }
-    z as u64
+    put(out, next, b'0' + (v % 10) as u8)
 }
 
 // A comma and a decimal.
@@ -39,8 +31,8 @@ fn put_next(out: &mut [u8], at: usize, v: u8) -> usize
     requires { at + length (commaed (v ∷ [])) ≤ length out.old }
     ensures { Wrote out.old at (commaed (v ∷ [])) result out.new }
 {
-    let next = put(out, at, 44);
-    put_decimal(out, next, v as u64)
+    let next = put(out, at, b',');
+    put_decimal(out, next, u64::from(v))
 }
 
 // The symbols of a window behind the first, each with a comma before it.
@@ -49,10 +41,8 @@ fn put_others(out: &mut [u8], at: usize, w: [u8; 16], n: usize) -> usize
     ensures { Wrote out.old at (commaed (drop 1 (take n w))) result out.new }
 {
     let mut next = at;
-    let mut i = 1;
-    while i < n {
+    for i in 1..n {
         next = put_next(out, next, w[i]);
-        i += 1;
     }
     next
 }
@@ -71,9 +61,9 @@ pub(crate) fn put_signed_field(out: &mut [u8], at: usize, z: i32, end: u8) -> us
     requires { at + length (signed z ++ (end ∷ [])) ≤ length out.old }
     ensures { Wrote out.old at (signed z ++ (end ∷ [])) result out.new }
 {
-    let v = magnitude(z);
+    let v = u64::from(z.unsigned_abs());
     if z < 0 {
-        let next = put(out, at, 45);
+        let next = put(out, at, b'-');
         return put_decimal_field(out, next, v, end);
     }
     put_decimal_field(out, at, v, end)
@@ -84,7 +74,7 @@ pub(crate) fn put_joined_field(out: &mut [u8], at: usize, w: [u8; 16], n: usize,
     requires { (1 ≤ n) × (n ≤ 16) × (at + length (joined (take n w) ++ (end ∷ [])) ≤ length out.old) }
     ensures { Wrote out.old at (joined (take n w) ++ (end ∷ [])) result out.new }
 {
-    let others = put_decimal(out, at, w[0] as u64);
+    let others = put_decimal(out, at, u64::from(w[0]));
     let last = put_others(out, others, w, n);
     put(out, last, end)
 }

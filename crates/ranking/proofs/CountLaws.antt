@@ -1,32 +1,23 @@
 -- Laws of the numbers: `ways`, `ways_from`, L(n, k) and a(n). Assumes nothing.
-use mathlib.Core.Logic.{◌≢◌}
-use mathlib.Core.Path.{◌≡◌, refl, sym, ap, ap₂, ◌∙◌}
-use Prim.Native.Nat.{ℕ, zero, suc, pred, ◌+◌, ◌-◌, ◌*◌, ◌≤◌, ◌<◌, zero-le, suc-le-suc}
-use native.Mathlib.Nat.{add-zero, mul-add, mul_assoc, mul-zero, mul-le-mul_right}
+use mathlib.Core.Path.{◌≡◌, refl, sym, ap}
+use Prim.Native.Nat.{ℕ, zero, suc, pred, ◌+◌, ◌-◌, ◌*◌, ◌^◌, ◌≤◌, ◌<◌, zero-le, suc-le-suc}
+use native.Mathlib.Nat.{pow-zero, pow-suc, add-zero, mul-zero, mul-le-mul_right}
 use native.Mathlib.Decide.{dec_le, le_ind}
 use native.Mathlib.Numerals.{add-one}
 use native.Mathlib.Omega.{arith}
 use Rattle.ranking.specs.Counts.{L, sum, a, ways, ways_from}
 use Rattle.ranking.proofs.Sums.{sum_zero, sum_suc, sum_cong, sum_append}
 
--- the first place takes a missing height or a present one
-pub ways_first : (r m p : ℕ) → r ≢ 0 → ways r m p ≡ m * ways (r - 1) (m - 1) (p + 1) + p * ways (r - 1) m p
+-- one place more takes a missing height or a present one
+pub ways_one_place : (r m p : ℕ) → ways (r + 1) m p ≡ m * ways r (m - 1) (p + 1) + p * ways r m p
 unfolding ways
-ways_first zero m p h = absurd (h refl)
-ways_first (suc r) m p h =
-    let (e₀, e₁, e₂) : (suc r - 1 ≡ r) × (m - 1 ≡ pred m) × (p + 1 ≡ suc p) = omega arith in
-    rw (e₀, e₁, e₂)
-
--- the same, for each of f fillings of the places before
-pub ways-after : (f r m p : ℕ) → r ≢ 0 → f * ways r m p ≡ f * m * ways (r - 1) (m - 1) (p + 1) + f * p * ways (r - 1) m p
-ways-after f r m p h =
-    let (x, y) : ℕ × ℕ = (ways (r - 1) (m - 1) (p + 1), ways (r - 1) m p) in
-    ap (f *◌) (ways_first r m p h) ∙ mul-add f (m * x) (p * y) ∙ ap₂ ◌+◌ (sym (mul_assoc f m x)) (sym (mul_assoc f p y))
+ways_one_place r m p = let (e₀, e₁, e₂) : (r + 1 ≡ suc r) × (m - 1 ≡ pred m) × (p + 1 ≡ suc p) = omega arith in rw (e₀, e₁, e₂)
 
 -- with none missing each place takes a present one
-pub ways-none-missing : (r p : ℕ) → ways r 0 p * p ≡ ways (r + 1) 0 p
+pub ways-powers : (r p : ℕ) → ways r 0 p ≡ p ^ r
 unfolding ways
-ways-none-missing r p = rw add-one (omega arith)
+ways-powers zero p = sym (pow-zero p)
+ways-powers (suc r) p = omega (arith, ap (◌* p) (ways-powers r p), pow-suc p r)
 
 -- one more height is allowed: it occurs, or it does not
 pub ways_split : (r m p : ℕ) → ways r m (suc p) ≡ ways r (suc m) p + ways r m p

@@ -11,7 +11,10 @@ use native.Mathlib.Numerals.{add-one}
 use native.Mathlib.Omega.{arith}
 use native.Mathlib.Decide.{dec_lt, le_ind}
 use lib.Dec.{eqb}
+use lib.ListN.{length, get_or, take}
 use borrow.Author.Tests.{eq-eqb, ne_eqb}
+use Rattle.std.specs.List.{sum as list_sum}
+use Rattle.std.proofs.lemmas.List.Sums.{sum_by_more}
 use Rattle.weak_orders.specs.Window.{count, range}
 use Rattle.weak_orders.proofs.Lists.{count_nil, count_cons, count_append, count-range}
 use Rattle.weak_orders.proofs.Tests.{◌∈◌, by_test, bit, bit≤1}
@@ -74,6 +77,14 @@ sum-single f (suc n) i l h = elim (dec_lt i n) [
   | no l' ↦ let e : i ≡ n = omega arith in
       omega (arith, ap f e, sum-none f n (λ j a. h j (omega arith) (omega arith)))
 ]
+
+-- the sum of the first elements of a list
+pub sum_front : (t : List ℕ) (v : ℕ) → v ≤ length t → list_sum (take v t) ≡ sum (λ u. get_or t u 0) v
+unfolding sum
+sum_front t zero l = refl
+sum_front t (suc v) l =
+    let e : v + 1 ≡ suc v = omega arith in
+    omega (arith, ap (λ n. list_sum (take n t)) e, sum_by_more (λ x. x) t v 0 (omega arith), sum_front t v (omega arith))
 
 pub count-range≤ : (b : ℕ → Bool) (n : ℕ) → count b (range n) ≤ n
 unfolding range

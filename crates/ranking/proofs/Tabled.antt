@@ -26,9 +26,6 @@ entries_set t f k x h e i others = elim (ℕ_discrete i k) [
   | no ne ↦ get_or-set_other t k i x 0 ne ∙ others ne
 ]
 
-pub entries_more : (t : List ℕ) (f : ℕ → ℕ) (k x : ℕ) → k < length t → x ≡ f k → Entries t f k → Entries (set t k x) f (k + 1)
-entries_more t f k x h e below i l = entries_set t f k x h e i (λ ne. below i (omega arith))
-
 module _ (t : List ℕ) (h : is_count_table t ≡ true) where
   by_recurrence : (n k : ℕ) → n ≤ 16 → k ≤ 16 → get_or t (n * 17 + k) 0 ≡ recurrence t n k
   unfolding is_count_table

@@ -1,9 +1,9 @@
 // The numbers a(n) and L(n, k) of weak orders, and the places of height windows in dictionary order (document 01, "Windows" and
 // "Place"). Rests on weak_orders. Completions of a prefix are counted, never listed. Knows no rule and no session; a rank window has
-// the place of its heights, and is converted by the caller.
+// the place of its heights, and is converted by the caller. `as` narrows a number of places or of heights, which is at most 17.
 #![tactic(auto)]
 
-ghost use Rattle.std.specs.Prelude.{cond, true, ◌&&◌, ◌≡◌, max, ◌+◌, ◌-◌, ◌^◌, ◌≤◌, ◌<◌, leb, get_or, take};
+ghost use Rattle.std.specs.Prelude.{cond, true, ◌&&◌, ◌≡◌, ◌+◌, ◌^◌, ◌≤◌, ◌<◌, leb, get_or, take, sum as list_sum};
 ghost use Rattle.weak_orders.specs.Converted.{is_height_window};
 ghost use Rattle.weak_orders.specs.Window.{padded, bound};
 ghost use Rattle.ranking.specs.Answers.{counted, placed, located};
@@ -11,8 +11,7 @@ ghost use Rattle.ranking.specs.Counts.{L, a, sum, ways, ways_from, Found};
 ghost use Rattle.ranking.specs.Dictionary.{completions_with, place, window_at};
 ghost use Rattle.ranking.specs.Tables.{Entries, is_count_table};
 
-use refusals::{Cause, Verdict};
-use weak_orders::WindowAnswer;
+use refusals::Cause;
 
 mod tables;
 
@@ -48,10 +47,7 @@ pub fn weak_order_count(n: usize) -> u64
 pub fn weak_order_count_with(n: usize, k: usize) -> u64
     ensures { result ≡ cond (leb n 16 && leb k 16) (L n k) 0 }
 {
-    if 16 < n {
-        return 0;
-    }
-    if 16 < k {
+    if 16 < n || 16 < k {
         return 0;
     }
     let counts = tables::by_symbols();
@@ -63,13 +59,7 @@ fn none_missing(rest: u64, present: u64) -> u64
     requires { rest + present ≤ 17 }
     ensures { result ≡ ways rest 0 present }
 {
-    let mut total = 1;
-    let mut places = 0;
-    while places < rest {
-        total *= present;
-        places += 1;
-    }
-    total
+    present.pow(rest as u32)
 }
 
 // The ways where one height is missing: the fillings by one height more, without those that do not use it.
@@ -81,8 +71,8 @@ fn one_missing(rest: u64, present: u64) -> u64
 }
 
 // The ways to fill rest places where each of the missing heights has to stand in one, and any of the present may. With two missing they
-// are a difference, as with one. With more, some places take present heights, in so many fillings, the next takes a missing one, which is
-// then present, and fewer places are left. Where more heights are missing than places are left there is no way, and none is tried.
+// are a difference, as with one. With more, places are added one by one: each takes a missing height, which is then present where the others
+// are filled, or a present one. Fewer places than missing heights have no way, and none is tried.
 fn ways(rest: u64, missing: u64, present: u64) -> u64
     requires { rest + present < 16 }
     ensures { result ≡ ways rest missing present }
@@ -97,12 +87,8 @@ fn ways(rest: u64, missing: u64, present: u64) -> u64
         return one_missing(rest, present + 1) - one_missing(rest, present);
     }
     let mut total = 0;
-    let mut fillings = 1;
-    let mut left = rest;
-    while missing <= left {
-        left -= 1;
-        total += fillings * missing * ways(left, missing - 1, present + 1);
-        fillings *= present;
+    for others in missing - 1..rest {
+        total = missing * ways(others, missing - 1, present + 1) + present * total;
     }
     total
 }
@@ -115,9 +101,7 @@ fn row_sums_of(counts: [u64; 289], n: usize) -> [u64; 17]
 {
     let mut sums = [0u64; 17];
     let mut total = 0;
-    let mut m: usize = 17;
-    while 0 < m {
-        m -= 1;
+    for m in (0..17).rev() {
         total += counts[n * 17 + m];
         sums[m] = total;
     }
@@ -163,19 +147,10 @@ fn ways_from(rest: u64, present: u64, totals: &mut [u64; 17])
     }
     *totals = [0u64; 17];
     let mut total = 0;
-    let mut m = rest + 1;
-    while 0 < m {
-        m -= 1;
+    for m in (0..rest + 1).rev() {
         total += ways(rest, m, present);
         totals[m as usize] = total;
     }
-}
-
-// The larger of two numbers.
-fn larger(x: usize, y: usize) -> usize
-    ensures { result ≡ max x y }
-{
-    if x < y { y } else { x }
 }
 
 // One more than the largest of the first i symbols; 0 where there is none.
@@ -184,10 +159,8 @@ fn bound(w: [u8; 16], i: usize) -> usize
     ensures { result ≡ bound (take i w) }
 {
     let mut b = 0;
-    let mut j = 0;
-    while j < i {
-        b = larger(b, w[j] as usize + 1);
-        j += 1;
+    for &x in &w[..i] {
+        b = b.max(usize::from(x) + 1);
     }
     b
 }
@@ -204,30 +177,22 @@ fn continuations(w: [u8; 16], n: usize, i: usize, counts: &mut [u64; 16])
     let mut totals = [0u64; 17];
     ways_from((n - 1 - i) as u64, present as u64, &mut totals);
     *counts = [0u64; 16];
-    let mut v: usize = 0;
-    while v < n {
-        let missing = larger(top, v + 1) - present;
-        let mut count = totals[missing];
-        if seen[v] == 0 {
-            count += totals[missing - 1];
-        }
-        counts[v] = count;
-        v += 1;
+    for v in 0..n {
+        let missing = top.max(v + 1) - present;
+        counts[v] = if seen[v] == 0 {
+            totals[missing] + totals[missing - 1]
+        } else {
+            totals[missing]
+        };
     }
 }
 
-// The first v counts added up.
-fn sum_below(counts: &[u64; 16], v: usize) -> u64
-    requires { (v ≤ 16) × (sum (λ u. get_or counts.now u 0) v < 2 ^ 63) }
-    ensures { result ≡ sum (λ u. get_or counts.now u 0) v }
+// The counts added up.
+fn sum_of(counts: &[u64]) -> u64
+    requires { list_sum counts.now < 2 ^ 63 }
+    ensures { result ≡ list_sum counts.now }
 {
-    let mut total = 0;
-    let mut u = 0;
-    while u < v {
-        total += counts[u];
-        u += 1;
-    }
-    total
+    counts.iter().sum()
 }
 
 // The place of a height window: for each symbol, the completions of those before it with a smaller one behind.
@@ -237,11 +202,9 @@ fn place_of(w: [u8; 16], n: usize) -> u64
 {
     let mut counts = [0u64; 16];
     let mut before = 0;
-    let mut i = 0;
-    while i < n {
+    for i in 0..n {
         continuations(w, n, i, &mut counts);
-        before += sum_below(&counts, w[i] as usize);
-        i += 1;
+        before += sum_of(&counts[..usize::from(w[i])]);
     }
     before
 }
@@ -258,6 +221,7 @@ fn symbol_at(counts: &[u64; 16], n: usize, left: u64) -> Next
     requires { (n ≤ 16) × (left < sum (λ u. get_or counts.now u 0) n) }
     ensures { (result.symbol < n) × Found (λ u. get_or counts.now u 0) left result.symbol result.left }
 {
+    // No `for` over the counts: that the search ends among the first n follows from left, and a `for` would need an answer for its own end.
     let mut rest = left;
     let mut v: usize = 0;
     while counts[v] <= rest {
@@ -278,57 +242,39 @@ fn window_of(n: usize, place: u64) -> [u8; 16]
     let mut counts = [0u64; 16];
     let mut window = [0u8; 16];
     let mut left = place;
-    let mut i = 0;
-    while i < n {
+    for i in 0..n {
         continuations(window, n, i, &mut counts);
         let next = symbol_at(&counts, n, left);
         window[i] = next.symbol;
         left = next.left;
-        i += 1;
     }
     window
 }
 
-// A number for an answer, or why there is none.
-#[derive(Clone, Copy)]
-pub enum NumberAnswer {
-    Number(u64),
-    Refused(Cause),
-}
-
 // How many weak orders of n there are.
-pub fn count(n: usize) -> NumberAnswer
+pub fn count(n: usize) -> Result<u64, Cause>
     ensures { result ≡ counted n }
 {
     if !weak_orders::is_length(n) {
-        return NumberAnswer::Refused(Cause::WindowLength);
+        return Err(Cause::WindowLength);
     }
-    NumberAnswer::Number(weak_order_count(n))
+    Ok(weak_order_count(n))
 }
 
 // The place of the first n symbols of w in dictionary order, where they are a height window.
-pub fn place(w: [u8; 16], n: usize) -> NumberAnswer
+pub fn place(w: [u8; 16], n: usize) -> Result<u64, Cause>
     ensures { result ≡ placed n (take n w) }
 {
-    let verdict = weak_orders::judge(n, weak_orders::is_height(w, n));
-    match verdict {
-        Verdict::Accepted => NumberAnswer::Number(place_of(w, n)),
-        Verdict::Refused(cause) => NumberAnswer::Refused(cause),
-    }
+    weak_orders::judge(n, weak_orders::is_height(w, n))?;
+    Ok(place_of(w, n))
 }
 
 // The height window of n at a place.
-pub fn window_at(n: usize, place: u64) -> WindowAnswer
+pub fn window_at(n: usize, place: u64) -> Result<[u8; 16], Cause>
     ensures { result ≡ located n place }
 {
-    if !weak_orders::is_length(n) {
-        return WindowAnswer::refused(Cause::WindowLength);
+    if count(n)? <= place {
+        return Err(Cause::NoSuchPlace);
     }
-    if weak_order_count(n) <= place {
-        return WindowAnswer::refused(Cause::NoSuchPlace);
-    }
-    WindowAnswer {
-        verdict: Verdict::Accepted,
-        window: window_of(n, place),
-    }
+    Ok(window_of(n, place))
 }

@@ -1,14 +1,16 @@
 -- A record is an event, and a run of records a list of events. Assumes nothing.
-use Rattle.std.proofs.Common.{Bool, true, false, List, [], ◌∷◌, ◌++◌, ◌≡◌, refl, ap, ◌∙◌, ℕ, ◌+◌, ◌≤◌, arith, length-append}
+use Rattle.std.proofs.Common.{List, [], ◌∷◌, ◌++◌, ◌≡◌, refl, ap, ◌∙◌, ℕ, ◌+◌, ◌≤◌, arith, length-append}
 use Rattle.stepper.specs.declared.session.Session.{Session}
+use Rattle.records.specs.declared.Content.{Content}
+use Rattle.records.specs.declared.Content.TheVariants.{Frame, LevelFile}
 use Rattle.stepper.specs.Exchange.{fresh}
 use Rattle.stepper.specs.ExactlyOnce.{Event, question, level_file, next, after}
 use Rattle.records.specs.Answered.{answered, Comes, Reached}
 
-pub record_comes : (file : Bool) (s t : Session) (bytes buffer out : List ℕ) → (t, out) ≡ answered file s bytes buffer → Comes s t
+pub record_comes : (content : Content) (s t : Session) (bytes buffer out : List ℕ) → (t, out) ≡ answered content s bytes buffer → Comes s t
 unfolding next
-record_comes true s t bytes buffer out e = record { event = level_file bytes; left = ap (λ (p : Session × List ℕ). p.0) e }
-record_comes false s t bytes buffer out e = record {
+record_comes LevelFile s t bytes buffer out e = record { event = level_file bytes; left = ap (λ (p : Session × List ℕ). p.0) e }
+record_comes Frame s t bytes buffer out e = record {
   event = question (record { frame = bytes; buffer = buffer });
   left = ap (λ (p : Session × List ℕ). p.0) e;
 }

@@ -1,5 +1,5 @@
 -- A record's lengths and what they announce are its bytes, and a run's records and answers are those of its turns.
-use Rattle.std.proofs.Common.{Bool, true, false, List, [], ◌∷◌, ◌++◌, ◌≡◌, inl, inr, refl, sym, ap, ◌∙◌, subst, ℕ, ◌+◌, ◌*◌, ◌%◌, ◌/◌, ◌<◌, ◌≤◌, ◌-◌, arith, length, take, drop, get_or, replicate, append-nil, append_assoc, length-append, rules, Option}
+use Rattle.std.proofs.Common.{List, [], ◌∷◌, ◌++◌, ◌≡◌, inl, inr, refl, sym, ap, ◌∙◌, subst, ℕ, ◌+◌, ◌*◌, ◌%◌, ◌/◌, ◌<◌, ◌≤◌, ◌-◌, arith, length, take, drop, get_or, replicate, append-nil, append_assoc, length-append, rules, Option, Some, None, IfSome, IsSome, IsNone}
 use Rattle.std.proofs.lemmas.List.{length-replicate, drop-take, drop-replicate, take-replicate}
 use Rattle.std.proofs.lemmas.List.Elements.{All-append}
 use Rattle.std.proofs.KnownBytes.{Consumes-nil, Consumes-trans, Appends-nil, Appends-trans}
@@ -9,6 +9,7 @@ use Rattle.stepper.specs.ExactlyOnce.{Event, question, level_file, next, after}
 use Rattle.stepper.specs.Exchange.{fresh}
 use Rattle.records.specs.declared.Kind.{Kind}
 use Rattle.records.specs.declared.Kind.TheVariants.{Events}
+use Rattle.records.specs.declared.Content.TheVariants.{Frame, LevelFile}
 use Rattle.records.proofs.Reaching.{after_more}
 use Rattle.records.specs.Answered.{answered}
 use Rattle.records.specs.Runs.{body_of, letter_of, record_of, records_of, answer_to, answers_to, IsFrame, IsFile, IsOf, Plays, Ends, Cut, PlaysOrEnds, PlaysAll, Ran}
@@ -37,23 +38,23 @@ buffer_of r m all e lt = drop-take 1 r all ∙ ap (λ l. take r (drop 1 l)) e �
 filled_frame : (n : ℕ) (buffer : List ℕ) → buffer ≡ replicate n 165 → buffer ≡ replicate (length buffer) 165
 filled_frame n buffer e = e ∙ ap (λ k. replicate k 165) (sym (ap length e ∙ length-replicate n 165))
 
-pub frame_plays : (s t : Session) (more : Bool) (lengths frame buffer out : List ℕ) (a b c o o' : Option (List ℕ))
+pub frame_plays : (s : Session) (r : Option Session) (lengths frame buffer out : List ℕ) (a b c o o' : Option (List ℕ))
     → length lengths ≡ 2 → buffer ≡ replicate (get_or lengths 0 0) 165 → length frame ≡ get_or lengths 1 0
     → Consumes a b lengths
-    → (more ≡ true → (t, out) ≡ answered false s frame buffer)
-    → (more ≡ true → Consumes b c frame)
-    → (more ≡ true → Appends o o' out)
-    → (more ≡ false → Cut frame (answered false s frame buffer).1 b c o o')
-    → PlaysOrEnds body_of IsFrame s more t a c o o'
+    → IfSome r (λ t. (t, out) ≡ answered Frame s frame buffer)
+    → (IsSome r → Consumes b c frame)
+    → (IsSome r → Appends o o' out)
+    → (IsNone r → Cut frame (answered Frame s frame buffer).1 b c o o')
+    → PlaysOrEnds body_of IsFrame s r a c o o'
 unfolding next
-frame_plays s t true lengths frame buffer out a b c o o' two held len front ans taken written cut = record {
+frame_plays s (Some t) lengths frame buffer out a b c o o' two held len front ans taken written cut = record {
   event = question (record { frame = frame; buffer = buffer });
   held = filled_frame _ _ held;
-  left = ap (λ (p : Session × List ℕ). p.0) (ans refl);
+  left = ap (λ (p : Session × List ℕ). p.0) ans;
   taken = subst (Consumes a c) (frame_body lengths frame buffer two held len) (Consumes-trans _ _ _ _ _ front (taken refl));
-  written = subst (Appends o o') (ap (λ (p : Session × List ℕ). p.1) (ans refl)) (written refl);
+  written = subst (Appends o o') (ap (λ (p : Session × List ℕ). p.1) ans) (written refl);
 }
-frame_plays s t false lengths frame buffer out a b c o o' two held len front ans taken written cut =
+frame_plays s None lengths frame buffer out a b c o o' two held len front ans taken written cut =
     let k = cut refl in
     record {
       rest = lengths ++ k.rest;
@@ -66,23 +67,23 @@ frame_plays s t false lengths frame buffer out a b c o o' two held len front ans
       ];
     }
 
-pub file_plays : (s t : Session) (more : Bool) (lengths file out : List ℕ) (a b c o o' : Option (List ℕ))
+pub file_plays : (s : Session) (r : Option Session) (lengths file out : List ℕ) (a b c o o' : Option (List ℕ))
     → length lengths ≡ 2 → get_or lengths 0 0 < 256 → length file ≡ get_or lengths 0 0 + 256 * get_or lengths 1 0
     → Consumes a b lengths
-    → (more ≡ true → (t, out) ≡ answered true s file [])
-    → (more ≡ true → Consumes b c file)
-    → (more ≡ true → Appends o o' out)
-    → (more ≡ false → Cut file (answered true s file []).1 b c o o')
-    → PlaysOrEnds body_of IsFile s more t a c o o'
+    → IfSome r (λ t. (t, out) ≡ answered LevelFile s file [])
+    → (IsSome r → Consumes b c file)
+    → (IsSome r → Appends o o' out)
+    → (IsNone r → Cut file (answered LevelFile s file []).1 b c o o')
+    → PlaysOrEnds body_of IsFile s r a c o o'
 unfolding next
-file_plays s t true lengths file out a b c o o' two low len front ans taken written cut = record {
+file_plays s (Some t) lengths file out a b c o o' two low len front ans taken written cut = record {
   event = level_file file;
   held = tt;
-  left = ap (λ (p : Session × List ℕ). p.0) (ans refl);
+  left = ap (λ (p : Session × List ℕ). p.0) ans;
   taken = subst (Consumes a c) (file_body lengths file two low len) (Consumes-trans _ _ _ _ _ front (taken refl));
-  written = subst (Appends o o') (ap (λ (p : Session × List ℕ). p.1) (ans refl)) (written refl);
+  written = subst (Appends o o') (ap (λ (p : Session × List ℕ). p.1) ans) (written refl);
 }
-file_plays s t false lengths file out a b c o o' two low len front ans taken written cut =
+file_plays s None lengths file out a b c o o' two low len front ans taken written cut =
     let k = cut refl in
     record {
       rest = lengths ++ k.rest;
@@ -112,21 +113,21 @@ with_letter : (letter : List ℕ) (n : ℕ) (e : Event) → letter ≡ n ∷ [] 
 with_letter letter n e l is = ap (λ k. k ++ body_of e) (l ∙ ap (λ k. k ∷ []) (sym is))
 
 -- the letter in front makes a frame or a level file a record of events
-pub letter_plays : (holds : Event → Type 0) (n : ℕ) (s t : Session) (more : Bool) (letter : List ℕ) (a b c o o' : Option (List ℕ))
+pub letter_plays : (holds : Event → Type 0) (n : ℕ) (s : Session) (r : Option Session) (letter : List ℕ) (a b c o o' : Option (List ℕ))
     → letter ≡ n ∷ []
     → ((e : Event) → holds e → letter_of e ≡ n)
     → ((e : Event) → holds e → IsOf Events e)
     → Consumes a b letter
-    → PlaysOrEnds body_of holds s more t b c o o'
-    → PlaysOrEnds (record_of Events) (IsOf Events) s more t a c o o'
-letter_plays holds n s t true letter a b c o o' l is sub front p = record {
+    → PlaysOrEnds body_of holds s r b c o o'
+    → PlaysOrEnds (record_of Events) (IsOf Events) s r a c o o'
+letter_plays holds n s (Some t) letter a b c o o' l is sub front p = record {
   event = p.event;
   held = sub p.event p.held;
   left = p.left;
   taken = subst (Consumes a c) (with_letter letter n p.event l (is p.event p.held)) (Consumes-trans _ _ _ _ _ front p.taken);
   written = p.written;
 }
-letter_plays holds n s t false letter a b c o o' l is sub front k = record {
+letter_plays holds n s None letter a b c o o' l is sub front k = record {
   rest = letter ++ k.rest;
   gap = k.gap;
   taken = Consumes-trans _ _ _ _ _ front k.taken;
@@ -181,13 +182,3 @@ pub all_rest : (k : Kind) (n m : ℕ) (s : Session) (bs : List ℕ) (a b c o p :
     → n ≤ m → PlaysAll k n s a b o p → Consumes b c bs → Ran k m s a c o p
 all_rest k n m s bs a b c o p le r x =
     all_end k n m s a b c o p p le r (record { rest = bs; gap = []; taken = x; written = Appends-nil p; cut = inl refl })
-
-pub when_more : (bytes : Event → List ℕ) (holds : Event → Type 0) (s : Session) (more : Bool) (t : Session) (a b o p : Option (List ℕ))
-    → more ≡ true → PlaysOrEnds bytes holds s more t a b o p → Plays bytes holds s t a b o p
-when_more bytes holds s true t a b o p e x = x
-when_more bytes holds s false t a b o p e x = cc
-
-pub when_no_more : (bytes : Event → List ℕ) (holds : Event → Type 0) (s : Session) (more : Bool) (t : Session) (a b o p : Option (List ℕ))
-    → more ≡ false → PlaysOrEnds bytes holds s more t a b o p → Ends bytes holds s a b o p
-when_no_more bytes holds s true t a b o p e x = cc
-when_no_more bytes holds s false t a b o p e x = x

@@ -1,8 +1,10 @@
 -- What a record comes to: the session after it, and the bytes written for it; and what a run of records comes to. That the records are those of the
 -- input, and that their answers are written, Runs says.
-use Rattle.std.specs.Prelude.{Bool, cond, List, ◌∷◌, ◌≡◌, ℕ, ◌≤◌, length}
+use Rattle.std.specs.Prelude.{List, ◌∷◌, ◌≡◌, ℕ, ◌≤◌, length}
 use Rattle.frames.specs.Answer.{reply_number}
 use Rattle.stepper.specs.declared.session.Session.{Session}
+use Rattle.records.specs.declared.Content.{Content}
+use Rattle.records.specs.declared.Content.TheVariants.{Frame, LevelFile}
 use Rattle.stepper.specs.Exchange.{fresh, Outcome, exchange, load_levels}
 use Rattle.stepper.specs.ExactlyOnce.{Event, next, after}
 
@@ -11,8 +13,9 @@ abbrev pub numbered : Outcome → Session × List ℕ
 numbered (x, buffer) = (x.session, reply_number x.reply ∷ buffer)
 
 -- what a record comes to: a level file, or a frame, which is answered in the buffer
-abbrev pub answered : Bool → Session → List ℕ → List ℕ → Session × List ℕ
-answered file s bytes buffer = numbered (cond file (load_levels s bytes, buffer) (exchange s bytes buffer))
+abbrev pub answered : Content → Session → List ℕ → List ℕ → Session × List ℕ
+answered Frame s bytes buffer = numbered (exchange s bytes buffer)
+answered LevelFile s bytes buffer = numbered (load_levels s bytes, buffer)
 
 -- one event leads from the session s to t: a frame with its buffer, or a level file
 pub record Comes (s t : Session) : Type 0 where

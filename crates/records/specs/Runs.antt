@@ -1,12 +1,13 @@
 -- What a run of records takes from its input and what it writes, where the bytes of both are known: the records' bytes in order, and for each its
 -- answer, in order and without a gap.
-use Rattle.std.specs.Prelude.{Bool, true, false, List, [], ◌∷◌, ◌++◌, ◌≡◌, ◌⊎◌, ⊤, ℕ, ◌/◌, ◌%◌, ◌≤◌, length, take, replicate, Option, All, MatchBool}
+use Rattle.std.specs.Prelude.{List, [], ◌∷◌, ◌++◌, ◌≡◌, ◌⊎◌, ⊤, ℕ, ◌/◌, ◌%◌, ◌≤◌, length, take, replicate, Option, All, MatchOption}
 use Rattle.std.specs.Io.KnownBytes.{Appends, Consumes}
 use Rattle.stepper.specs.declared.session.Session.{Session}
 use Rattle.stepper.specs.Exchange.{fresh}
 use Rattle.stepper.specs.ExactlyOnce.{Event, question, level_file, next, after}
 use Rattle.records.specs.declared.Kind.{Kind}
 use Rattle.records.specs.declared.Kind.TheVariants.{Frames, Events}
+use Rattle.records.specs.declared.Content.TheVariants.{Frame, LevelFile}
 use Rattle.records.specs.Answered.{answered}
 
 -- a record from its lengths on: of a frame the length of its answer buffer and its own, in a byte each; of a level file its own in two bytes, the
@@ -39,8 +40,8 @@ IsOf Events e = IsFrame e ⊎ IsFile e
 
 -- the number, and behind it the answer buffer of a frame
 abbrev pub answer_to : Session → Event → List ℕ
-answer_to s (question x) = (answered false s x.frame x.buffer).1
-answer_to s (level_file f) = (answered true s f []).1
+answer_to s (question x) = (answered Frame s x.frame x.buffer).1
+answer_to s (level_file f) = (answered LevelFile s f []).1
 
 -- the records of a list of events, and the answers to them
 abbrev pub records_of : Kind → List Event → List ℕ
@@ -70,9 +71,9 @@ pub record Ends (bytes : Event → List ℕ) (holds : Event → Type 0) (s : Ses
   pub written : Appends out₀ out₁ gap
   pub cut : (gap ≡ []) ⊎ ((e : Event) × holds e × (rest ≡ bytes e) × IsFront gap (answer_to s e))
 
--- either, as `more` says
-abbrev pub PlaysOrEnds : (Event → List ℕ) → (Event → Type 0) → Session → Bool → Session → Option (List ℕ) → Option (List ℕ) → Option (List ℕ) → Option (List ℕ) → Type 0
-PlaysOrEnds bytes holds s more t in₀ in₁ out₀ out₁ = MatchBool more (Plays bytes holds s t in₀ in₁ out₀ out₁) (Ends bytes holds s in₀ in₁ out₀ out₁)
+-- either: the session behind the record, or none
+abbrev pub PlaysOrEnds : (Event → List ℕ) → (Event → Type 0) → Session → Option Session → Option (List ℕ) → Option (List ℕ) → Option (List ℕ) → Option (List ℕ) → Type 0
+PlaysOrEnds bytes holds s r in₀ in₁ out₀ out₁ = MatchOption r (Ends bytes holds s in₀ in₁ out₀ out₁) (λ t. Plays bytes holds s t in₀ in₁ out₀ out₁)
 
 -- the same of a part that was to be read, and of what was to be written for it
 pub record Cut (part answer : List ℕ) (in₀ in₁ out₀ out₁ : Option (List ℕ)) : Type 0 where

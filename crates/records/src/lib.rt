@@ -2,7 +2,7 @@
 // Rests on handler for what a record comes to, on input for reads, on output for writes, and on failures for what is said of one that failed.
 #![tactic(auto)]
 
-ghost use Rattle.std.specs.Prelude.{true, false, ◌≡◌, ◌≤◌, ◌<◌, ℕ, List, length, drop, replicate};
+ghost use Rattle.std.specs.Prelude.{true, ◌≡◌, ◌≤◌, ℕ, List, length, drop, replicate, IfSome, IsSome, IsNone};
 ghost use Rattle.std.specs.Io.KnownBytes.{Appends, Consumes};
 ghost use Rattle.stepper.specs.Exchange.{exchange, load_levels};
 ghost use Rattle.records.specs.Answered.{numbered, answered, Comes, Reached};
@@ -29,37 +29,29 @@ pub struct Streams<'a, I, O, E> {
     pub errors: E,
 }
 
-// The session after a record, and whether to go on.
-#[derive(Clone, Copy)]
-struct Played {
-    more: bool,
-    session: Session,
+// What one record holds.
+#[derive(Clone, Copy, Debug, PartialEq, Eq)]
+pub enum Content {
+    Frame,
+    LevelFile,
 }
 
-fn wide(x: u8) -> usize
-    ensures value { result ≡ x }
-    ensures small { result < 256 }
-{
-    x as usize
+// Where a part stands in its record. The input may end before a record starts, and not inside it.
+#[derive(Clone, Copy, Debug, PartialEq, Eq)]
+enum Place {
+    Start,
+    Inside,
 }
 
 // An answer buffer with room for the number in front.
 fn filled() -> [u8; 256]
     ensures { result ≡ replicate 256 165 }
 {
-    [165u8; 256]
+    [165; 256]
 }
 
-fn ended(session: Session) -> Played
-    ensures { result.more ≡ false }
-{
-    Played {
-        more: false,
-        session,
-    }
-}
-
-// The number goes in front. What is behind it stays: the answer buffer of a frame, and nothing for a level file.
+// The number goes in front, so `out` has a byte, here and below: a type for such a slice would say no more. What is behind it stays: the answer
+// buffer of a frame, and nothing for a level file.
 fn put_number(x: Exchanged, out: &mut [u8]) -> Session
     requires { 1 ≤ length out.old }
     ensures { (result, out.new) ≡ numbered (x, drop 1 out.old) }
@@ -84,15 +76,15 @@ fn answer_file(session: Session, file: &[u8], out: &mut [u8]) -> Session
     put_number(x, out)
 }
 
-// What a record holds, answered: a level file, or a frame.
-fn answer(session: Session, file: bool, bytes: &[u8], out: &mut [u8]) -> Session
+// What a record holds, answered.
+fn answer(session: Session, content: Content, bytes: &[u8], out: &mut [u8]) -> Session
     requires { 1 ≤ length out.old }
-    ensures { (result, out.new) ≡ answered file session bytes.now (drop 1 out.old) }
+    ensures { (result, out.new) ≡ answered content session bytes.now (drop 1 out.old) }
 {
-    if file {
-        return answer_file(session, bytes, out);
+    match content {
+        Content::Frame => answer_frame(session, bytes, out),
+        Content::LevelFile => answer_file(session, bytes, out),
     }
-    answer_frame(session, bytes, out)
 }
 
 impl<I: Read, O: Write, E: Write> Streams<'_, I, O, E> {
@@ -115,7 +107,7 @@ impl<I: Read, O: Write, E: Write> Streams<'_, I, O, E> {
     }
 
     // Whether a part of a record was read. If not, that is said, unless the record starts with this part and the input ends before it.
-    fn read_part(&mut self, part: &mut [u8], first: bool) -> bool
+    fn read_part(&mut self, part: &mut [u8], place: Place) -> bool
         ensures some { (bs : List ℕ) × Consumes (I.remaining self.old.input) (I.remaining self.new.input) bs }
         ensures taken { result ≡ true → Consumes (I.remaining self.old.input) (I.remaining self.new.input) part.new }
         ensures output { self.new.output ≡ self.old.output }
@@ -128,112 +120,123 @@ impl<I: Read, O: Write, E: Write> Streams<'_, I, O, E> {
         if got.len == part.len() {
             return true;
         }
-        if !first || 0 < got.len {
+        if place == Place::Inside || 0 < got.len {
             self.say(b": the last record is cut off\n");
         }
         false
     }
 
-    // The answer is written. If it cannot be, that is said, and no record may follow the gap.
-    fn write_answer(&mut self, out: &[u8], next: Session) -> Played
-        ensures session { result.session ≡ next }
-        ensures written { result.more ≡ true → Appends (O.contents self.old.output) (O.contents self.new.output) out.now }
+    // Whether the answer was written. If not, that is said, and no record may follow the gap.
+    fn write_answer(&mut self, out: &[u8]) -> bool
+        ensures written { result ≡ true → Appends (O.contents self.old.output) (O.contents self.new.output) out.now }
         ensures cut { (bs : List ℕ) × IsFront bs out.now × Appends (O.contents self.old.output) (O.contents self.new.output) bs }
         ensures input { self.new.input ≡ self.old.input }
     {
         let put = output::put(&mut self.output, out);
         if let Some(error) = put.failed {
             self.say_failed(b": could not write an answer", error);
+            return false;
         }
-        Played {
-            more: put.failed.is_none(),
-            session: next,
-        }
+        true
     }
 
     // A level file or a frame that fills its slice, answered in `out`, which is what is written.
-    fn play_in(&mut self, session: Session, file: bool, bytes: &mut [u8], out: &mut [u8]) -> Played
+    fn play_in(
+        &mut self,
+        session: Session,
+        content: Content,
+        bytes: &mut [u8],
+        out: &mut [u8],
+    ) -> Option<Session>
         requires { 1 ≤ length out.old }
-        ensures answered { result.more ≡ true → (result.session, out.new) ≡ answered file session bytes.new (drop 1 out.old) }
-        ensures taken { result.more ≡ true → Consumes (I.remaining self.old.input) (I.remaining self.new.input) bytes.new }
-        ensures written { result.more ≡ true → Appends (O.contents self.old.output) (O.contents self.new.output) out.new }
-        ensures cut { result.more ≡ false → Cut bytes.new (answered file session bytes.new (drop 1 out.old)).1
+        ensures answered { IfSome result (λ t. (t, out.new) ≡ answered content session bytes.new (drop 1 out.old)) }
+        ensures taken { IsSome result → Consumes (I.remaining self.old.input) (I.remaining self.new.input) bytes.new }
+        ensures written { IsSome result → Appends (O.contents self.old.output) (O.contents self.new.output) out.new }
+        ensures cut { IsNone result → Cut bytes.new (answered content session bytes.new (drop 1 out.old)).1
             (I.remaining self.old.input) (I.remaining self.new.input)
             (O.contents self.old.output) (O.contents self.new.output) }
     {
-        if !self.read_part(bytes, false) {
-            return ended(session);
+        if !self.read_part(bytes, Place::Inside) {
+            return None;
         }
-        let next = answer(session, file, bytes, out);
-        self.write_answer(out, next)
+        let next = answer(session, content, bytes, out);
+        if !self.write_answer(out) {
+            return None;
+        }
+        Some(next)
     }
 
-    // A record of a frame, from its lengths on. `first` says that it starts with them.
-    fn play_frame(&mut self, session: Session, first: bool) -> Played
-        ensures comes { result.more ≡ true → Comes session result.session }
-        ensures plays { PlaysOrEnds body_of IsFrame session result.more result.session
+    // A record of a frame, from its lengths on. `place` says whether it starts with them.
+    fn play_frame(&mut self, session: Session, place: Place) -> Option<Session>
+        ensures comes { IfSome result (λ t. Comes session t) }
+        ensures plays { PlaysOrEnds body_of IsFrame session result
             (I.remaining self.old.input) (I.remaining self.new.input)
             (O.contents self.old.output) (O.contents self.new.output) }
     {
-        let mut lengths = [0u8; 2];
-        if !self.read_part(&mut lengths, first) {
-            return ended(session);
+        let mut lengths = [0; 2];
+        if !self.read_part(&mut lengths, place) {
+            return None;
         }
-        let end = 1 + wide(lengths[0]);
-        let length = wide(lengths[1]);
-        let mut frame = [0u8; 256];
+        let [room, length] = lengths;
+        let mut frame = [0; 256];
         let mut out = filled();
-        self.play_in(session, false, &mut frame[..length], &mut out[..end])
+        let bytes = &mut frame[..usize::from(length)];
+        self.play_in(
+            session,
+            Content::Frame,
+            bytes,
+            &mut out[..1 + usize::from(room)],
+        )
     }
 
     // A record of a level file, from its length on. The buffer has room for any length that two bytes can say.
-    fn play_file(&mut self, session: Session) -> Played
-        ensures comes { result.more ≡ true → Comes session result.session }
-        ensures plays { PlaysOrEnds body_of IsFile session result.more result.session
+    fn play_file(&mut self, session: Session) -> Option<Session>
+        ensures comes { IfSome result (λ t. Comes session t) }
+        ensures plays { PlaysOrEnds body_of IsFile session result
             (I.remaining self.old.input) (I.remaining self.new.input)
             (O.contents self.old.output) (O.contents self.new.output) }
     {
-        let mut lengths = [0u8; 2];
-        if !self.read_part(&mut lengths, false) {
-            return ended(session);
+        let mut lengths = [0; 2];
+        if !self.read_part(&mut lengths, Place::Inside) {
+            return None;
         }
-        let low = wide(lengths[0]);
-        let high = wide(lengths[1]);
-        let length = low + 256 * high;
-        let mut file = [0u8; 65536];
-        let mut out = [0u8; 1];
-        self.play_in(session, true, &mut file[..length], &mut out)
+        let [low, high] = lengths;
+        // Not `from_le_bytes`: behind it the proof does not see that each byte is below 256.
+        let length = usize::from(low) + 256 * usize::from(high);
+        let mut file = [0; 65536];
+        let mut out = [0; 1];
+        self.play_in(session, Content::LevelFile, &mut file[..length], &mut out)
     }
 
     // A record of a frame or of a level file, by its first byte.
-    fn play_event(&mut self, session: Session) -> Played
-        ensures comes { result.more ≡ true → Comes session result.session }
-        ensures plays { PlaysOrEnds (record_of Kind.Events) (IsOf Kind.Events) session result.more result.session
+    fn play_event(&mut self, session: Session) -> Option<Session>
+        ensures comes { IfSome result (λ t. Comes session t) }
+        ensures plays { PlaysOrEnds (record_of Kind.Events) (IsOf Kind.Events) session result
             (I.remaining self.old.input) (I.remaining self.new.input)
             (O.contents self.old.output) (O.contents self.new.output) }
     {
-        let mut letter = [0u8; 1];
-        if !self.read_part(&mut letter, true) {
-            return ended(session);
+        let mut letter = [0; 1];
+        if !self.read_part(&mut letter, Place::Start) {
+            return None;
         }
         match letter[0] {
-            b'F' => self.play_frame(session, false),
+            b'F' => self.play_frame(session, Place::Inside),
             b'L' => self.play_file(session),
             _ => {
                 self.say(b": a record starts with neither F nor L\n");
-                ended(session)
+                None
             }
         }
     }
 
-    fn play(&mut self, kind: Kind, session: Session) -> Played
-        ensures comes { result.more ≡ true → Comes session result.session }
-        ensures plays { PlaysOrEnds (record_of kind) (IsOf kind) session result.more result.session
+    fn play(&mut self, kind: Kind, session: Session) -> Option<Session>
+        ensures comes { IfSome result (λ t. Comes session t) }
+        ensures plays { PlaysOrEnds (record_of kind) (IsOf kind) session result
             (I.remaining self.old.input) (I.remaining self.new.input)
             (O.contents self.old.output) (O.contents self.new.output) }
     {
         match kind {
-            Kind::Frames => self.play_frame(session, true),
+            Kind::Frames => self.play_frame(session, Place::Start),
             Kind::Events => self.play_event(session),
         }
     }
@@ -243,8 +246,8 @@ impl<I: Read, O: Write, E: Write> Streams<'_, I, O, E> {
         ensures some { (bs : List ℕ) × Consumes (I.remaining self.old.input) (I.remaining self.new.input) bs }
         ensures output { self.new.output ≡ self.old.output }
     {
-        let mut next = [0u8; 1];
-        if self.read_part(&mut next, true) {
+        let mut next = [0; 1];
+        if self.read_part(&mut next, Place::Start) {
             self.say(b": stopped after 1000000 records\n");
         }
     }
@@ -258,11 +261,10 @@ impl<I: Read, O: Write, E: Write> Streams<'_, I, O, E> {
     {
         let mut session = Session::fresh();
         for _ in 0..1_000_000u32 {
-            let played = self.play(kind, session);
-            if !played.more {
+            let Some(next) = self.play(kind, session) else {
                 return session;
-            }
-            session = played.session;
+            };
+            session = next;
         }
         self.report_rest();
         session

@@ -1,12 +1,10 @@
 -- The numbers of the refusals (document 01, "Turned down", and document 02), and what a direct call returns for them.
-use Rattle.std.specs.Prelude.{ℕ, ◌+◌}
+use Rattle.std.specs.Prelude.{ℕ, ◌+◌, Result, Ok, Err}
 use Rattle.refusals.specs.declared.Cause.{Cause}
 use Rattle.refusals.specs.declared.Cause.TheVariants.{ShortBuffer, FrameLength, FrameHeader, FrameKind, ReservedByte}
 use Rattle.refusals.specs.declared.Cause.TheVariants.{WindowLength, RuleNumber, NotWeakOrder, LevelSetting, NotBegun}
 use Rattle.refusals.specs.declared.Cause.TheVariants.{StepNumber, RoundFinished, NoSuchPlace, SheetMalformed, NoFilling, LevelFile}
 use Rattle.refusals.specs.declared.Cause.TheVariants.{OtherVersion, OtherRound, RoundInForce}
-use Rattle.refusals.specs.declared.Verdict.{Verdict}
-use Rattle.refusals.specs.declared.Verdict.TheVariants.{Accepted, Refused}
 
 abbrev pub cause_number : Cause → ℕ
 cause_number ShortBuffer = 1
@@ -37,6 +35,6 @@ abbrev pub refusal : Cause → ℕ
 refusal c = 256 + cause_number c
 
 -- "0 means done"
-abbrev pub returned : Verdict → ℕ
-returned Accepted = 0
-returned (Refused c) = refusal c
+abbrev pub returned : {A : Type 0} → Result A Cause → ℕ
+returned (Ok _) = 0
+returned (Err c) = refusal c

@@ -6,7 +6,7 @@ ghost use Rattle.std.specs.Prelude.{◌≡◌};
 ghost use Rattle.refusals.specs.Numbers.{cause_number};
 
 // The causes in the order of document 01's table, "Turned down", and then those of document 02.
-#[derive(Clone, Copy)]
+#[derive(Clone, Copy, Debug, PartialEq, Eq)]
 pub enum Cause {
     ShortBuffer,
     FrameLength,
@@ -29,36 +29,31 @@ pub enum Cause {
     RoundInForce,
 }
 
-// Whether a call or a sheet is accepted. A window that goes with it stands beside it, since an enum cannot hold an array.
-#[derive(Clone, Copy)]
-pub enum Verdict {
-    Accepted,
-    Refused(Cause),
-}
-
 // The table's number of a cause.
-pub fn number(cause: Cause) -> u8
-    ensures { result ≡ cause_number cause }
-{
-    match cause {
-        Cause::ShortBuffer => 1,
-        Cause::FrameLength => 2,
-        Cause::FrameHeader => 3,
-        Cause::FrameKind => 4,
-        Cause::ReservedByte => 5,
-        Cause::WindowLength => 6,
-        Cause::RuleNumber => 7,
-        Cause::NotWeakOrder => 8,
-        Cause::LevelSetting => 9,
-        Cause::NotBegun => 10,
-        Cause::StepNumber => 11,
-        Cause::RoundFinished => 12,
-        Cause::NoSuchPlace => 13,
-        Cause::SheetMalformed => 14,
-        Cause::NoFilling => 15,
-        Cause::LevelFile => 16,
-        Cause::OtherVersion => 17,
-        Cause::OtherRound => 18,
-        Cause::RoundInForce => 19,
+impl From<Cause> for u8 {
+    ghost from_gives = { λ c r. r ≡ cause_number c };
+
+    fn from(cause: Cause) -> u8 {
+        match cause {
+            Cause::ShortBuffer => 1,
+            Cause::FrameLength => 2,
+            Cause::FrameHeader => 3,
+            Cause::FrameKind => 4,
+            Cause::ReservedByte => 5,
+            Cause::WindowLength => 6,
+            Cause::RuleNumber => 7,
+            Cause::NotWeakOrder => 8,
+            Cause::LevelSetting => 9,
+            Cause::NotBegun => 10,
+            Cause::StepNumber => 11,
+            Cause::RoundFinished => 12,
+            Cause::NoSuchPlace => 13,
+            Cause::SheetMalformed => 14,
+            Cause::NoFilling => 15,
+            Cause::LevelFile => 16,
+            Cause::OtherVersion => 17,
+            Cause::OtherRound => 18,
+            Cause::RoundInForce => 19,
+        }
     }
 }

@@ -7,6 +7,7 @@
 
 use records::{Kind, Streams};
 
+// One call, as in replay_events: what the two share is the crate records.
 fn main(rt: HostRuntime) {
     let mut streams = Streams {
         name: b"replay",

@@ -6,6 +6,7 @@
 
 use records::{Kind, Streams};
 
+// One call, as in replay: what the two share is the crate records.
 fn main(rt: HostRuntime) {
     let mut streams = Streams {
         name: b"replay_events",

@@ -1,5 +1,5 @@
 -- The loop of `count_other`: a tally along the steps of a rule, window by window. Assumes nothing.
-use mathlib.Core.Bool.{not, cond}
+use mathlib.Core.Bool.{not}
 use mathlib.Core.List.{List, [], ◌∷◌}
 use mathlib.Core.Path.{◌≡◌, refl, sym, ap, ◌∙◌}
 use Prim.Native.Nat.{ℕ, ◌+◌, ◌-◌, ◌≤◌}
@@ -8,6 +8,7 @@ use native.Mathlib.Omega.{arith}
 use lib.Dec.{eqb}
 use lib.ListN.{length, take, get_or}
 use lib.Seq.{length-take-le, get_or-take, get_or_at}
+use mir.Val.{bool_byte}
 use Rattle.weak_orders.specs.Window.{count, range, iter, shifted}
 use Rattle.weak_orders.proofs.FormTests.{says_length}
 use Rattle.weak_orders.proofs.Lists.{count_nil, count-range, count_le_length, length-range}
@@ -46,7 +47,7 @@ appended rule n [] e pos = absurd (omega arith)
 appended rule n (x ∷ b) e pos = get_or_at b (rule (x ∷ b)) [] 0 (n - 1) (omega arith)
 
 module _ {r n : ℕ} {w v next : List ℕ} {total i d : ℕ} (W : Walking r n w v total i)
-    (is : next ≡ step_or_stay r n v) (compared : d ≡ cond (eqb (get_or next (n - 1) 0) (get_or v 0 0)) 0 1) where
+    (is : next ≡ step_or_stay r n v) (compared : d ≡ bool_byte (not (eqb (get_or next (n - 1) 0) (get_or v 0 0)))) where
   pos : 1 ≤ n
   pos = (sized W).0
 

@@ -17,21 +17,11 @@ pub struct Tally {
     pub other: u64,
 }
 
-// 1 where the two differ.
-fn differ(a: u8, b: u8) -> u64
-    ensures { result ≡ cond (eqb a b) 0 1 }
-{
-    if a == b { 0 } else { 1 }
-}
-
 // All ones for rule 1, all zeros for the others.
 fn lowest(rule: u8) -> [u8; 16]
     ensures { result ≡ replicate 16 (cond (eqb rule 1) 1 0) }
 {
-    if rule == 1 {
-        return [1u8; 16];
-    }
-    [0u8; 16]
+    [u8::from(rule == 1); 16]
 }
 
 // Of the windows before each of so many steps from w, those that the step does not rotate: it appends another symbol than the oldest.
@@ -42,12 +32,10 @@ fn count_other(rule: u8, w: [u8; 16], n: usize, steps: u64) -> u64
     let last = n - 1;
     let mut v = w;
     let mut total = 0;
-    let mut i = 0;
-    while i < steps {
+    for _ in 0..steps {
         let next = successors::step(rule, v, n);
-        total += differ(next[last], v[0]);
+        total += u64::from(next[last] != v[0]);
         v = next;
-        i += 1;
     }
     total
 }
@@ -56,13 +44,13 @@ fn count_other(rule: u8, w: [u8; 16], n: usize, steps: u64) -> u64
 pub fn tally_of(rule: u8, n: usize) -> Tally
     ensures { result ≡ tallied rule n }
 {
-    if !(successors::is_rule(rule) & ((1 <= n) & (n <= 8))) {
+    if !successors::is_rule(rule) || !(1..=8).contains(&n) {
         return Tally { same: 0, other: 0 };
     }
     let all = ranking::weak_order_count(n);
     let other = count_other(rule, lowest(rule), n, all);
     Tally {
         same: all - other,
-        other: other,
+        other,
     }
 }

@@ -1,18 +1,21 @@
 -- The symbols of a rotation by their indices, and the comparison of two lists symbol by symbol. Assumes nothing.
 use mathlib.Core.Bool.{false}
 use mathlib.Core.List.{List, [], ◌∷◌, ◌++◌}
-use mathlib.Core.Path.{◌≡◌, sym, ap, subst, ◌∙◌}
+use mathlib.Core.Path.{◌≡◌, refl, sym, ap, subst, ◌∙◌}
 use Prim.Native.Nat.{ℕ, suc, ◌+◌, ◌-◌, ◌<◌, ◌≤◌}
 use native.Mathlib.Omega.{arith}
 use native.Mathlib.Numerals.{add-one}
 use borrow.Author.Tests.{le-ltb, eq-eqb, ne_eqb}
 use lib.ListN.{length, take, drop, get_or, length-drop, get_or-append}
 use lib.Seq.{length-take-le, get_or-append-add, get_or-drop, get_or-take, drop-cons, drop-length}
-use Rattle.weak_orders.proofs.Tests.{by_test}
+use lib.Dec.{eqb}
+use Rattle.std.specs.Ordering.{ordering_index}
+use Rattle.weak_orders.specs.Says.{Says}
+use Rattle.weak_orders.proofs.Tests.{by_test, says_as, says_eq}
 use Rattle.rotations.specs.Order.{lex_le, lex_lt, same, compared}
 use Rattle.rotations.specs.Rotation.{rotation}
-use Rattle.rotations.specs.declared.Comparison.{Comparison}
-use Rattle.rotations.specs.declared.Comparison.TheVariants.{Before, Same, Behind}
+use Rattle.std.specs.declared.cmp.Ordering.{Ordering}
+use Rattle.std.specs.declared.cmp.Ordering.TheVariants.{Less, Equal, Greater}
 use Rattle.rotations.proofs.Orders.{lex_antisymm, lex_lt_less, lex_lt_greater, lex_lt_equal}
 use Rattle.rotations.proofs.Rotations.{turned_rotation, length_rotated}
 
@@ -48,11 +51,11 @@ module _ (w : List ℕ) (n i : ℕ) (le : n ≤ length w) (lt : i < n) where
 
 -- the first symbols decide, or the rests where they are equal
 module _ (x y : ℕ) (u v : List ℕ) where
-  compared_less : x < y → Before ≡ compared (x ∷ u) (y ∷ v)
+  compared_less : x < y → Less ≡ compared (x ∷ u) (y ∷ v)
   unfolding compared
   compared_less lt = rw (lex_lt_less x y u v lt)
 
-  compared_greater : y < x → Behind ≡ compared (x ∷ u) (y ∷ v)
+  compared_greater : y < x → Greater ≡ compared (x ∷ u) (y ∷ v)
   unfolding compared same lex_le
   compared_greater gt = rw (lex_lt_greater x y u v gt, ne_eqb x y (λ e. omega arith), le-ltb x y (omega arith))
 
@@ -72,17 +75,17 @@ module _ (a b : List ℕ) (k x y : ℕ) (h : Front a b k x y) where
   fronts : compared a b ≡ compared (x ∷ drop (suc k) a) (y ∷ drop (suc k) b)
   fronts = rw (h.left, drop-cons a k 0 h.in_a, drop-cons b k 0 h.in_b, h.of_a, h.of_b)
 
-  pub front_less : x < y → Before ≡ compared a b
+  pub front_less : x < y → Less ≡ compared a b
   front_less lt = compared_less x y (drop (suc k) a) (drop (suc k) b) lt ∙ sym fronts
 
-  pub front_greater : y < x → Behind ≡ compared a b
+  pub front_greater : y < x → Greater ≡ compared a b
   front_greater gt = compared_greater x y (drop (suc k) a) (drop (suc k) b) gt ∙ sym fronts
 
   pub front_equal : x ≡ y → compared a b ≡ compared (drop (k + 1) a) (drop (k + 1) b)
   front_equal e = rw add-one (fronts ∙ compared_equal x y (drop (suc k) a) (drop (suc k) b) e)
 
 -- nothing is left
-pub compared_end : (a b : List ℕ) (k : ℕ) → length a ≡ k → length b ≡ k → compared a b ≡ compared (drop k a) (drop k b) → Same ≡ compared a b
+pub compared_end : (a b : List ℕ) (k : ℕ) → length a ≡ k → length b ≡ k → compared a b ≡ compared (drop k a) (drop k b) → Equal ≡ compared a b
 unfolding compared lex_lt same lex_le
 compared_end a b k e e' h =
     let nil : drop k a ≡ [] = rw (← e) (drop-length a) in
@@ -90,13 +93,28 @@ compared_end a b k e e' h =
     sym (h ∙ rw (nil, nil'))
 
 -- what each answer says of the order
-abbrev pub Told : List ℕ → List ℕ → Comparison → Type 0
-Told u v Before = lex_le v u ≡ false
-Told u v Same = u ≡ v
-Told u v Behind = lex_le u v ≡ false
+abbrev pub Told : List ℕ → List ℕ → Ordering → Type 0
+Told u v Less = lex_le v u ≡ false
+Told u v Equal = u ≡ v
+Told u v Greater = lex_le u v ≡ false
 
-pub told : (u v : List ℕ) (c : Comparison) → compared u v ≡ c → Told u v c
+pub told : (u v : List ℕ) (c : Ordering) → compared u v ≡ c → Told u v c
 unfolding compared lex_lt same
 told u v c e = subst (Told u v) e (by_test (lex_le v u)
     (λ t. by_test (lex_le u v) (λ t'. rw (t, t') (lex_antisymm u v t' t)) (λ f. rw (t, f) f))
     (λ f. rw f f))
+
+-- answers are compared by their indices
+pub says_answer : (a b : Ordering) → Says (eqb (ordering_index a) (ordering_index b)) (a ≡ b)
+says_answer a b = says_as (says_eq (ordering_index a) (ordering_index b)) (of_index a b) (ap ordering_index)
+  where
+    of_index : (a b : Ordering) → ordering_index a ≡ ordering_index b → a ≡ b
+    of_index Less Less e = refl
+    of_index Less Equal e = absurd (omega arith)
+    of_index Less Greater e = absurd (omega arith)
+    of_index Equal Less e = absurd (omega arith)
+    of_index Equal Equal e = refl
+    of_index Equal Greater e = absurd (omega arith)
+    of_index Greater Less e = absurd (omega arith)
+    of_index Greater Equal e = absurd (omega arith)
+    of_index Greater Greater e = refl

@@ -13,8 +13,13 @@ use Rattle.weak_orders.proofs.Tests.{by_test, not_true→false, false→not_true
 use Rattle.rotations.specs.Order.{lex_le}
 use Rattle.rotations.specs.Rotation.{rotation, rotations, is_greatest, start, start_greatest, period, least_rotation, greatest_rotation, own_standing}
 use Rattle.rotations.specs.declared.Rotation.{Rotation}
-use Rattle.rotations.specs.declared.Standing.{Standing}
-use Rattle.rotations.specs.declared.Standing.TheVariants.{Behind, Greatest}
+use mathlib.Core.Logic.{◌≢◌}
+use Rattle.std.specs.declared.cmp.Ordering.{Ordering}
+use Rattle.std.specs.declared.cmp.Ordering.TheVariants.{Less, Equal, Greater}
+use Rattle.std.specs.Ordering.{is_gt}
+use Rattle.std.specs.Prelude.{Some, None}
+use Rattle.rotations.proofs.Compared.{Told}
+use Rattle.std.specs.Option.{is_some}
 use Rattle.rotations.proofs.Orders.{TotalOrder, lex_ge, upward, downward}
 use Rattle.rotations.proofs.Periods.{returns, repeat, reduced, multiple_apart, whole}
 use Rattle.rotations.proofs.Returns.{Returns}
@@ -163,6 +168,22 @@ order_of false = upward
 abbrev pub Found : Bool → List ℕ → ℕ → ℕ → Type 0
 Found greatest w s p = record { start = s; period = p } ≡ cond greatest (greatest_rotation w) (least_rotation w)
 
+-- a rotation on the better side of the best comes before it in the order, and one on the other side comes behind
+pub better_moves : (better : Ordering) (u v : List ℕ) → better ≢ Equal → Told u v better → le_of (is_gt better) v u ≡ false
+better_moves Less u v ne told = told
+better_moves Equal u v ne told = absurd (ne refl)
+better_moves Greater u v ne told = told
+
+pub worse_stays : (better place : Ordering) (u v : List ℕ) → better ≢ Equal → place ≢ Equal → place ≢ better → Told u v place →
+    le_of (is_gt better) u v ≡ false
+worse_stays Equal place u v ne some other told = absurd (ne refl)
+worse_stays Less Less u v ne some other told = absurd (other refl)
+worse_stays Less Equal u v ne some other told = absurd (some refl)
+worse_stays Less Greater u v ne some other told = told
+worse_stays Greater Less u v ne some other told = told
+worse_stays Greater Equal u v ne some other told = absurd (some refl)
+worse_stays Greater Greater u v ne some other told = absurd (other refl)
+
 -- an index that comes first in the order, and the period
 found : (greatest : Bool) (x : ℕ) (b : List ℕ) (m p : ℕ) → StartBy (le_of greatest) (x ∷ b) m → p ≡ period (x ∷ b) →
     Found greatest (x ∷ b) (m + 1) p
@@ -210,27 +231,23 @@ unfolding rotation
 rotation_zero w = append-nil w
 
 -- the search would stay at its first index: the window is greatest
-pub own_greatest : (w : List ℕ) (p : ℕ) → Found true w 1 p → Greatest p ≡ own_standing w
+pub own_greatest : (w : List ℕ) (p : ℕ) → Found true w 1 p → Some p ≡ own_standing w
 unfolding own_standing greatest_rotation is_greatest rotations
-own_greatest [] p e = ap (λ (r : Rotation). Greatest r.period) e
+own_greatest [] p e = ap (λ (r : Rotation). Some r.period) e
 own_greatest (x ∷ b) p e =
     let (i, s, T) = greatest_first x b in
     let zero : i ≡ 0 = omega (arith, ap (λ (r : Rotation). r.start) e) in
     let own = rw (zero, rotation_zero (x ∷ b)) at T.lowest in
-    rw ((says_greatest x b (x ∷ b)).of own) (ap (λ (r : Rotation). Greatest r.period) e)
+    rw ((says_greatest x b (x ∷ b)).of own) (ap (λ (r : Rotation). Some r.period) e)
 
 -- it stands before one of them
-pub own_behind : (w : List ℕ) (j : ℕ) → 1 ≤ length w → lex_le (rotation w j) (rotation w 0) ≡ false → Behind ≡ own_standing w
+pub own_behind : (w : List ℕ) (j : ℕ) → 1 ≤ length w → lex_le (rotation w j) (rotation w 0) ≡ false → None ≡ own_standing w
 unfolding own_standing
 own_behind [] j pos f = absurd (omega arith)
 own_behind (x ∷ b) j pos f = rw (not_true→false _ (λ t.
     false→not_true _ f (rw (rotation_zero (x ∷ b)) ((says_greatest x b (x ∷ b)).to t _ (turned_rotation (x ∷ b) j)))))
 
 -- which of the two it is, without the period
-abbrev pub is_first : Standing → Bool
-is_first (Greatest p) = true
-is_first Behind = false
-
-pub first_greatest : (w : List ℕ) → is_first (own_standing w) ≡ is_greatest w w
+pub first_greatest : (w : List ℕ) → is_some (own_standing w) ≡ is_greatest w w
 unfolding own_standing
 first_greatest w = by_test (is_greatest w w) (λ t. rw t) (λ f. rw f)

@@ -1,7 +1,7 @@
 -- Dictionary order of strings of symbols.
 use Rattle.std.specs.Prelude.{Bool, true, false, cond, not, ◌&&◌, List, [], ◌∷◌, ℕ, ltb, eqb}
-use Rattle.rotations.specs.declared.Comparison.{Comparison}
-use Rattle.rotations.specs.declared.Comparison.TheVariants.{Before, Same, Behind}
+use Rattle.std.specs.declared.cmp.Ordering.{Ordering}
+use Rattle.std.specs.declared.cmp.Ordering.TheVariants.{Less, Equal, Greater}
 
 -- u stands before v in dictionary order, or is v
 unfoldable pub lex_le : List ℕ → List ℕ → Bool
@@ -20,6 +20,6 @@ unfolding lex_le
 same u v = lex_le u v && lex_le v u
 
 -- where u stands beside v
-unfoldable pub compared : List ℕ → List ℕ → Comparison
+unfoldable pub compared : List ℕ → List ℕ → Ordering
 unfolding lex_lt same
-compared u v = cond (lex_lt u v) Before (cond (same u v) Same Behind)
+compared u v = cond (lex_lt u v) Less (cond (same u v) Equal Greater)

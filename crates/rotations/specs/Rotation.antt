@@ -1,11 +1,9 @@
 -- The rotations of a window: which of them is least or greatest in dictionary order, and how many are different (document 01, "Rule 1" and
 -- "Rules 2 and 3"; document 02, Paper 5).
-use Rattle.std.specs.Prelude.{Bool, cond, not, List, ◌++◌, map, ℕ, suc, ◌-◌, length, take, drop}
+use Rattle.std.specs.Prelude.{Bool, cond, not, List, ◌++◌, map, ℕ, suc, Option, Some, None, ◌-◌, length, take, drop}
 use Rattle.weak_orders.specs.Window.{all, count, first_index, range}
 use Rattle.rotations.specs.Order.{lex_le, same}
 use Rattle.rotations.specs.declared.Rotation.{Rotation}
-use Rattle.rotations.specs.declared.Standing.{Standing}
-use Rattle.rotations.specs.declared.Standing.TheVariants.{Behind, Greatest}
 
 -- w read cyclically from its index i, counted from 0
 unfoldable pub rotation : List ℕ → ℕ → List ℕ
@@ -60,7 +58,7 @@ unfoldable pub greatest_rotation : List ℕ → Rotation
 unfolding start_greatest period
 greatest_rotation w = record { start = start_greatest w; period = period w }
 
--- where w stands among its rotations: it is the greatest, told with the period, or another is greater
-unfoldable pub own_standing : List ℕ → Standing
+-- the period, where w is its own greatest rotation; where another is greater, none
+unfoldable pub own_standing : List ℕ → Option ℕ
 unfolding is_greatest period
-own_standing w = cond (is_greatest w w) (Greatest (period w)) Behind
+own_standing w = cond (is_greatest w w) (Some (period w)) None

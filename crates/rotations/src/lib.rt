@@ -4,10 +4,13 @@
 // A window is an array of 16 by value with n beside; the symbols past n are not looked at.
 #![tactic(auto)]
 
-ghost use Rattle.std.specs.Prelude.{cond, List, ◌≡◌, ℕ, ◌≤◌, ◌<◌, length, take, get_or};
+ghost use Rattle.std.specs.Prelude.{cond, List, ◌≡◌, ◌≢◌, ℕ, ◌≤◌, ◌<◌, length, take, get_or};
+ghost use Rattle.std.specs.Ordering.{is_gt};
 ghost use Rattle.weak_orders.specs.Window.{padded};
 ghost use Rattle.rotations.specs.Order.{compared};
 ghost use Rattle.rotations.specs.Rotation.{rotation, turned_back, least_rotation, greatest_rotation, own_standing};
+
+use std::cmp::Ordering;
 
 // Where a window of n has the k-th symbol of its rotation from index i, all counted from 0.
 fn cyclic(n: usize, i: usize, k: usize) -> usize
@@ -27,43 +30,29 @@ pub fn turned_back(w: [u8; 16], n: usize) -> [u8; 16]
 {
     let end = weak_orders::capped(n);
     let mut v = [0u8; 16];
-    let mut i = 0;
-    while i < end {
-        let k = cyclic(end, end - 1, i);
-        v[i] = w[k];
-        i += 1;
+    if end > 0 {
+        v[0] = w[end - 1];
+        v[1..end].copy_from_slice(&w[..end - 1]);
     }
     v
 }
 
-// Where one string stands beside another in dictionary order.
-#[derive(Clone, Copy)]
-enum Comparison {
-    Before,
-    Same,
-    Behind,
-}
-
 // Where the rotation from index i stands beside the one from j.
-fn compare(w: [u8; 16], n: usize, i: usize, j: usize) -> Comparison
+fn compare(w: [u8; 16], n: usize, i: usize, j: usize) -> Ordering
     requires { (n ≤ 16) × (i < n) × (j < n) }
     ensures { result ≡ compared (rotation (take n w) i) (rotation (take n w) j) }
 {
-    let mut k = 0;
-    while k < n {
-        let a = cyclic(n, i, k);
-        let b = cyclic(n, j, k);
-        let x = w[a];
-        let y = w[b];
+    for k in 0..n {
+        let x = w[cyclic(n, i, k)];
+        let y = w[cyclic(n, j, k)];
         if x < y {
-            return Comparison::Before;
+            return Ordering::Less;
         }
         if y < x {
-            return Comparison::Behind;
+            return Ordering::Greater;
         }
-        k += 1;
     }
-    Comparison::Same // no symbol differs
+    Ordering::Equal // no symbol differs
 }
 
 // Where the least or the greatest rotation starts, counted from 1, the least such index where it starts at several; and the period, how many
@@ -74,78 +63,58 @@ pub struct Rotation {
     pub period: usize,
 }
 
-// Goes through the rotations and keeps the first index of the best so far: the least, or the greatest. Where that rotation comes again, those
-// behind are copies of what was compared, and the distance is the period; where it does not, all are different.
-fn search(w: [u8; 16], n: usize, greatest: bool) -> Rotation
-    ensures { result ≡ cond greatest (greatest_rotation (take n w)) (least_rotation (take n w)) }
+// Goes through the rotations and keeps the first index of the best so far, where a better one stands on that side of it: before it, to find
+// the least, or behind it, to find the greatest. Where that rotation comes again, those behind are copies of what was compared, and the
+// distance is the period; where it does not, all are different.
+fn search(w: [u8; 16], n: usize, better: Ordering) -> Rotation
+    requires { better ≢ Ordering.Equal }
+    ensures { result ≡ cond (is_gt better) (greatest_rotation (take n w)) (least_rotation (take n w)) }
 {
     let end = weak_orders::capped(n);
     let mut best = 0;
-    let mut j = 1;
-    while j < end {
+    for j in 1..end {
         let place = compare(w, end, j, best);
-        match place {
-            Comparison::Before => {
-                if !greatest {
-                    best = j;
-                }
-            }
-            Comparison::Same => {
-                let start = best + 1;
-                let period = j - best;
-                return Rotation { start, period };
-            }
-            Comparison::Behind => {
-                if greatest {
-                    best = j;
-                }
-            }
+        if place == Ordering::Equal {
+            return Rotation {
+                start: best + 1,
+                period: j - best,
+            };
         }
-        j += 1;
+        if place == better {
+            best = j;
+        }
     }
-    let start = best + 1;
-    Rotation { start, period: end }
+    Rotation {
+        start: best + 1,
+        period: end,
+    }
 }
 
-// Of the least rotation. No more than 16 symbols are looked at, and of none the start is 1 and the period 0; so too of the greatest.
+// Two names over one search. Of the least rotation. No more than 16 symbols are looked at, and of none the start is 1 and the period 0; so too of the greatest.
 pub fn least_rotation(w: [u8; 16], n: usize) -> Rotation
     ensures { result ≡ least_rotation (take n w) }
 {
-    search(w, n, false)
+    search(w, n, Ordering::Less)
 }
 
 pub fn greatest_rotation(w: [u8; 16], n: usize) -> Rotation
     ensures { result ≡ greatest_rotation (take n w) }
 {
-    search(w, n, true)
+    search(w, n, Ordering::Greater)
 }
 
-// Where a window stands among its rotations: behind another, or greatest, with the period.
-#[derive(Clone, Copy)]
-pub enum Standing {
-    Behind,
-    Greatest { period: usize },
-}
-
-// Whether the greatest rotation starts at 1. Where it does not, no search for where it starts is needed: the first rotation that is greater
-// than the window decides.
-pub fn own_standing(w: [u8; 16], n: usize) -> Standing
+// The period of a window that is its own greatest rotation, so that this starts at 1. Where it does not, no search for where it starts is
+// needed: the first rotation that is greater than the window decides.
+pub fn own_standing(w: [u8; 16], n: usize) -> Option<usize>
     ensures { result ≡ own_standing (take n w) }
 {
     let end = weak_orders::capped(n);
-    let mut i = 1;
-    while i < end {
-        let place = compare(w, end, 0, i);
-        match place {
-            Comparison::Before => {
-                return Standing::Behind;
-            }
-            Comparison::Same => {
-                return Standing::Greatest { period: i };
-            }
-            Comparison::Behind => {}
+    for i in 1..end {
+        match compare(w, end, 0, i) {
+            Ordering::Less => return None,
+            Ordering::Equal => return Some(i),
+            Ordering::Greater => {}
         }
-        i += 1;
     }
-    Standing::Greatest { period: end }
+    Some(end)
 }

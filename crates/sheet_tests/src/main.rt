@@ -6,13 +6,14 @@
 ghost use Rattle.std.specs.Prelude.{◌≤◌, length};
 
 use printing::Printing;
-use refusals::Verdict;
+use refusals::Cause;
 use sheets::judge;
+use sheets::judge::Round;
 use std::io;
 
-fn print_opening(rt: &impl Print, verdict: Verdict) -> io::Result<()> {
+fn print_opening(rt: &impl Print, told: Result<(), Cause>) -> io::Result<()> {
     let mut page = [0u8; 384];
-    let len = printing::put_opening(verdict, &mut page);
+    let len = printing::put_opening(told, &mut page);
     rt.write_all(&page[..len])
 }
 
@@ -27,7 +28,7 @@ fn try_sheet(rt: &impl Print, name: &[u8], text: &[u8]) -> io::Result<()> {
     rt.write_all(name)?;
     rt.write_all(b"\n")?;
     let judged = judge::read_sheet(text);
-    print_opening(rt, judged.verdict)?;
+    print_opening(rt, judged.map(|_| ()))?;
     print_page(rt, printing::started(judged))
 }
 
@@ -37,14 +38,13 @@ fn mark_from(s: &[u8], at: usize) -> usize
     ensures low { at ≤ result }
     ensures high { result ≤ length s.now }
 {
-    for i in at..s.len() {
-        if s[i] == b'#' {
-            return i;
-        }
+    match s[at..].iter().position(|b| *b == b'#') {
+        Some(i) => at + i,
+        None => s.len(),
     }
-    s.len()
 }
 
+// No index is counted: a turn goes on behind the text that it tried.
 fn try_all(rt: &impl Print, s: &[u8]) -> io::Result<()> {
     let mut at = 0;
     while at < s.len() {

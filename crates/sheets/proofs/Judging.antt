@@ -1,5 +1,5 @@
 -- The tests on a sheet in their order, and the start window before and after its items are narrowed. Assumes nothing.
-use mathlib.Core.Bool.{true, false, ◌&&◌, false≢true}
+use mathlib.Core.Bool.{true, false, ◌&&◌}
 use mathlib.Core.List.Memᴰ
 use mathlib.Core.List.{List, map}
 use mathlib.Core.Option.{Option, none, some}
@@ -21,12 +21,18 @@ use Rattle.successors.proofs.RuleNumbers.{form_bound}
 use Rattle.refusals.specs.declared.Cause.TheVariants.{WindowLength, RuleNumber, NotWeakOrder, LevelSetting, SheetMalformed}
 use Rattle.levels.specs.declared.Setting.{Setting}
 use Rattle.levels.specs.Level.{setting_of, setting_ok}
-use Rattle.refusals.specs.declared.Verdict.TheVariants.{Accepted}
 use Rattle.sheets.specs.Sheet.{RawSheet, parse}
 use Rattle.sheets.specs.Held.{sheet_held, parsed_of}
-use Rattle.sheets.specs.declared.sheet.Parsed.{Parsed}
+use Rattle.sheets.specs.declared.sheet.Sheet.{Sheet}
+use Rattle.std.specs.Prelude.{Option as Optional, Some, None, Result, Ok, Err}
+use Rattle.std.specs.Option.{ok_or}
+use Rattle.std.proofs.lemmas.Option.{none-some, same_Some}
 use Rattle.sheets.proofs.SheetTexts.{parse_sound}
-use Rattle.sheets.specs.Judgement.{round_of, refusal, judged, judged_sheet, judged_text, raw_of, symbol_of}
+use Rattle.sheets.specs.Judgement.{round_of, judged, judged_sheet, judged_text, raw_of, symbol_of}
+
+-- the cause of a refusal for want of a value
+pub same_cause : {T E : Type 0} {o : Optional T} {a b : E} → o ≡ None → Err a ≡ ok_or o b → a ≡ b
+same_cause {T} {E} {o} {a} {b} n e = let q : ◌≡◌ {A = Result T E} (Err a) (Err b) = rw n at e in cc
 
 -- ---- the tests
 
@@ -34,28 +40,28 @@ pub in_bounds : (low high v : ℕ) → (leb low v && leb v high) ≡ true → (l
 in_bounds low high v e = (says_and (says_le low v) (says_le v high)).to e
 
 module _ (x : RawSheet) where
-  pub bad_length : (leb 1 x.n && leb x.n 8) ≡ false → refusal WindowLength ≡ judged x
+  pub bad_length : (leb 1 x.n && leb x.n 8) ≡ false → Err WindowLength ≡ judged x
   unfolding judged
   bad_length e = rw e
 
   module _ (e₆ : (leb 1 x.n && leb x.n 8) ≡ true) where
-    pub bad_rule : is_rule x.rule ≡ false → refusal RuleNumber ≡ judged x
+    pub bad_rule : is_rule x.rule ≡ false → Err RuleNumber ≡ judged x
     unfolding judged
     bad_rule e = rw (e₆, e)
 
     module _ (e₇ : is_rule x.rule ≡ true) where
-      pub bad_window : (eqb (length x.start) x.n && in_form x.rule x.start) ≡ false → refusal NotWeakOrder ≡ judged x
+      pub bad_window : (eqb (length x.start) x.n && in_form x.rule x.start) ≡ false → Err NotWeakOrder ≡ judged x
       unfolding judged
       bad_window e = rw (e₆, e₇, e)
 
       module _ (e₈ : (eqb (length x.start) x.n && in_form x.rule x.start) ≡ true) where
-        pub bad_setting : setting_ok x.n (setting_of x.top x.spacing) ≡ false → refusal LevelSetting ≡ judged x
+        pub bad_setting : setting_ok x.n (setting_of x.top x.spacing) ≡ false → Err LevelSetting ≡ judged x
         unfolding judged
         bad_setting e = rw (e₆, e₇, e₈, e)
 
         pub good_sheet : setting_ok x.n (setting_of x.top x.spacing) ≡ true → (setting : Setting) (w : List ℕ) →
             setting ≡ setting_of x.top x.spacing → w ≡ padded x.start →
-            record { verdict = Accepted; round = record { n = x.n; rule = x.rule; setting = setting; window = w } } ≡ judged x
+            Ok (record { n = x.n; rule = x.rule; setting = setting; window = w }) ≡ judged x
         unfolding judged round_of
         good_sheet e setting w p q = rw (e₆, e₇, e₈, e, p, q)
 
@@ -102,16 +108,16 @@ module _ (rule n count : ℕ) (items w : List ℕ) (long : length items ≡ 16) 
 
 -- a struct holds the whole sheet
 raw_held : (x : RawSheet) → length x.start ≤ 16 → raw_of (sheet_held x) ≡ x
-unfolding raw_of sheet_held
+unfolding raw_of
 raw_held x h = rw (take-padded x.start (length x.start) refl)
 
-module _ (s : List ℕ) (p : Parsed) where
-  pub malformed : (o : Option RawSheet) → parse s ≡ o → p ≡ parsed_of o → p.found ≡ false → refusal SheetMalformed ≡ judged_text s
-  unfolding judged_text judged_sheet parsed_of
-  malformed none q e f = rw q
-  malformed (some x) q e f = absurd (false≢true (sym (rw e at f)))
+module _ (s : List ℕ) where
+  pub malformed : (o : Option RawSheet) → parse s ≡ o → None ≡ parsed_of o → Err SheetMalformed ≡ judged_text s
+  unfolding judged_text judged_sheet
+  malformed none q e = rw q
+  malformed (some x) q e = absurd (none-some _ e)
 
-  pub well_formed : (o : Option RawSheet) → parse s ≡ o → p ≡ parsed_of o → p.found ≡ true → judged (raw_of p.sheet) ≡ judged_text s
-  unfolding judged_text judged_sheet parsed_of
-  well_formed none q e t = absurd (false≢true (rw e at t))
-  well_formed (some x) q e t = rw (q, e, raw_held x (parse_sound s x q).within.few_start)
+  pub well_formed : (o : Option RawSheet) → parse s ≡ o → {h : Sheet} → Some h ≡ parsed_of o → judged (raw_of h) ≡ judged_text s
+  unfolding judged_text judged_sheet
+  well_formed none q e = absurd (none-some _ (sym e))
+  well_formed (some x) q {h} e = rw (q, same_Some _ _ e, raw_held x (parse_sound s x q).within.few_start)

@@ -1,44 +1,20 @@
 -- The fields of the second line one after the other, as the functions answer them. Assumes nothing.
-use mathlib.Core.Bool.{true}
 use mathlib.Core.List.{List}
-use mathlib.Core.Path.{◌≡◌, refl}
+use mathlib.Core.Path.{◌≡◌}
 use Prim.Native.Nat.{ℕ, ◌+◌, ◌≤◌}
 use native.Mathlib.Omega.{arith}
 use lib.IntN.{ℤ}
 use lib.ListN.{length, drop}
 use lib.Seq.{drop-drop}
-use Rattle.weak_orders.specs.Window.{padded}
-use Rattle.decimals.specs.Reading.{Found, found, missing, Reader, further, both, ended, numbers}
-use Rattle.sheets.specs.Sheet.{length_and_rule, top_and_spacing, fields, sheet_of}
-use Rattle.sheets.specs.Held.{length_and_rule_of, top_and_spacing_of, sheet_held, lines_of}
-use Rattle.sheets.specs.declared.sheet.LengthAndRule.TheVariants.{Read as LengthRule, Unread as NoLengthRule}
-use Rattle.sheets.specs.declared.sheet.TopAndSpacing.TheVariants.{Read as TopSpacing, Unread as NoTopSpacing}
+use Rattle.decimals.specs.Reading.{found, missing, Reader, both, ended, numbers}
+use Rattle.std.specs.Prelude.{Some}
+use Rattle.decimals.specs.Held.{taken_as, numbers_of}
+use Rattle.decimals.specs.declared.NumberList.{NumberList}
+use Rattle.sheets.specs.Sheet.{Fields, length_and_rule, top_and_spacing, fields, sheet_of}
+use Rattle.sheets.specs.Held.{sheet_held}
 use Rattle.decimals.proofs.Answers.{both-none, both_one, both_found}
 use Rattle.decimals.proofs.Readers.{takes_within, further_within}
 use Rattle.sheets.proofs.SheetTexts.{reads_length_and_rule, reads_top_and_spacing, reads_list}
-
--- ---- from an answer to what was found
-
-pub found_length_and_rule : {n rule k : ℕ} (f : Found (ℕ × ℕ)) → length_and_rule_of f ≡ LengthRule n rule k → f ≡ found (n, rule) k
-unfolding length_and_rule_of
-found_length_and_rule (found (n, rule) k) e = cc
-found_length_and_rule missing e = absurd (let z : ◌≡◌ {A = ℕ} 0 1 = cc in omega arith)
-
-pub no_length_and_rule : (f : Found (ℕ × ℕ)) → length_and_rule_of f ≡ NoLengthRule → f ≡ missing
-unfolding length_and_rule_of
-no_length_and_rule (found (n, rule) k) e = absurd (let z : ◌≡◌ {A = ℕ} 0 1 = cc in omega arith)
-no_length_and_rule missing e = refl
-
-pub found_top_and_spacing : {top : ℤ} {spacing k : ℕ} (f : Found (ℤ × ℕ)) → top_and_spacing_of f ≡ TopSpacing top spacing k →
-    f ≡ found (top, spacing) k
-unfolding top_and_spacing_of
-found_top_and_spacing (found (top, spacing) k) e = cc
-found_top_and_spacing missing e = absurd (let z : ◌≡◌ {A = ℕ} 0 1 = cc in omega arith)
-
-pub no_top_and_spacing : (f : Found (ℤ × ℕ)) → top_and_spacing_of f ≡ NoTopSpacing → f ≡ missing
-unfolding top_and_spacing_of
-no_top_and_spacing (found (top, spacing) k) e = absurd (let z : ◌≡◌ {A = ℕ} 0 1 = cc in omega arith)
-no_top_and_spacing missing e = refl
 
 -- ---- the second line
 
@@ -78,14 +54,7 @@ module _ (s : List ℕ) where
             let e : ended (numbers 16) 10 (drop b (drop a s)) ≡ found start k = rw (drop-drop b a s) e₃ in
             rw sum at (both_found length_and_rule rest s e₁ (both_found top_and_spacing (ended (numbers 16) 10) (drop a s) e₂ e))
 
--- no fields, no lines
-pub lines_missing : (s : List ℕ) → fields s ≡ missing → lines_of missing ≡ lines_of (further 0 sheet_of (fields s))
-unfolding further
-lines_missing s e = rw e
-
-pub lines_found : (s : List ℕ) {n rule : ℕ} {top : ℤ} {spacing : ℕ} {start : List ℕ} {k : ℕ} (items : List ℕ) (count : ℕ) →
-    fields s ≡ found ((n, rule), ((top, spacing), start)) k → items ≡ padded start → count ≡ length start →
-    record { found = true; sheet = record { n = n; rule = rule; top = top; spacing = spacing; items = items; count = count }; len = k }
-    ≡ lines_of (further 0 sheet_of (fields s))
-unfolding further lines_of sheet_held
-lines_found s {k = k} items count e i c = let z : 0 + k ≡ k = omega arith in rw (e, i, c, z)
+pub fields_taken : (s : List ℕ) {z : Fields} {k : ℕ} (start : NumberList) → fields s ≡ found z k → start ≡ numbers_of z.1.1 →
+    Some (record { value = record { n = z.0.0; rule = z.0.1; top = z.1.0.0; spacing = z.1.0.1; start = start }; len = k })
+    ≡ taken_as (λ x. sheet_held (sheet_of x)) (fields s)
+fields_taken s start e h = rw (e, h)

@@ -1,33 +1,23 @@
 -- The two lines of a sheet, and the sheet that is a whole text, as the functions answer them. Assumes nothing.
-use mathlib.Core.Bool.{true, false, false≢true}
+use mathlib.Core.Bool.{true, false}
 use mathlib.Core.List.{List}
 use mathlib.Core.Option.{none}
-use mathlib.Core.Path.{◌≡◌, refl, sym}
+use mathlib.Core.Path.{◌≡◌}
 use Prim.Native.Nat.{ℕ, ◌+◌, ◌≤◌, ◌<◌}
 use native.Mathlib.Omega.{arith}
 use lib.ListN.{length, drop}
 use borrow.Author.Tests.{eq-eqb, ne_eqb, le-leb, lt-leb}
+use Rattle.std.specs.Prelude.{Some, None}
 use Rattle.decimals.specs.Reading.{Found, found, missing, further}
+use Rattle.decimals.specs.Held.{taken_as}
+use Rattle.decimals.specs.declared.Taken.{Taken}
 use Rattle.sheets.specs.Sheet.{RawSheet, title_line, has_title, Fields, fields, sheet_of, sheet_lines, wholly, parse}
-use Rattle.sheets.specs.Held.{sheet_held, lines_of, parsed_of}
-use Rattle.sheets.specs.declared.sheet.Lines.{Lines}
+use Rattle.sheets.specs.Held.{sheet_held, parsed_of}
+use Rattle.sheets.specs.declared.sheet.Sheet.{Sheet}
 use Rattle.decimals.proofs.Cursors.{begins_long}
 use Rattle.decimals.proofs.Readers.{takes_within}
-use Rattle.decimals.proofs.Answers.{behind-other, behind_here}
+use Rattle.decimals.proofs.Answers.{found_as, not_as, behind-other, behind_here}
 use Rattle.sheets.proofs.SheetTexts.{reads_fields}
-
--- ---- from an answer to what was found
-
-pub no_lines : (l : Lines) (f : Found RawSheet) → l ≡ lines_of f → l.found ≡ false → f ≡ missing
-unfolding lines_of
-no_lines l (found x k) e t = absurd (false≢true (sym (rw e at t)))
-no_lines l missing e t = refl
-
-pub found_lines : (l : Lines) (f : Found RawSheet) → l ≡ lines_of f → l.found ≡ true →
-    (x : RawSheet) × (f ≡ found x l.len) × (l.sheet ≡ sheet_held x)
-unfolding lines_of
-found_lines l (found x k) e t = (x, rw e, rw e)
-found_lines l missing e t = absurd (false≢true (rw e at t))
 
 -- ---- the first line
 
@@ -46,25 +36,27 @@ module _ (s : List ℕ) where
 
 -- ---- the second line, behind the first
 
-pub second-missing : (l : Lines) (f : Found Fields) → l ≡ lines_of (further 0 sheet_of f) → l.found ≡ false →
-    l ≡ lines_of (further 25 sheet_of f)
-unfolding lines_of further
-second-missing l (found z k) e t = absurd (false≢true (sym (rw e at t)))
-second-missing l missing e t = e
+-- the fields, in a sheet's struct
+abbrev pub fields_held : Fields → Sheet
+fields_held z = sheet_held (sheet_of z)
 
-pub second_found : (l : Lines) (f : Found Fields) → l ≡ lines_of (further 0 sheet_of f) → l.found ≡ true →
-    record { found = l.found; sheet = l.sheet; len = l.len + 25 } ≡ lines_of (further 25 sheet_of f)
-unfolding lines_of further
-second_found l (found z k) e t = let sum : 0 + k + 25 ≡ 25 + k = omega arith in rw (e, sum)
-second_found l missing e t = absurd (false≢true (rw e at t))
+pub second-missing : (f : Found Fields) → None ≡ taken_as fields_held f → further 25 sheet_of f ≡ missing
+unfolding further
+second-missing f e = rw (not_as fields_held f e)
 
-pub second_within : (s : List ℕ) (l : Lines) → l ≡ lines_of (further 0 sheet_of (fields s)) → l.len ≤ length s
-unfolding lines_of further
-second_within s l e = go (fields s) refl e
+pub second_found : {l : Taken Sheet} (f : Found Fields) → Some l ≡ taken_as fields_held f →
+    Some (record { value = l.value; len = l.len + 25 }) ≡ taken_as sheet_held (further 25 sheet_of f)
+unfolding further
+second_found {l} f e = let (x, q, v) = found_as fields_held {t = l} f e in go x q v
   where
-    go : (f : Found Fields) → fields s ≡ f → l ≡ lines_of (further 0 sheet_of f) → l.len ≤ length s
-    go (found z k) r e = rw e (omega (arith, takes_within (reads_fields.sound s z k r).0))
-    go missing r e = rw e (omega arith)
+    go : (x : Fields) → f ≡ found x l.len → l.value ≡ fields_held x →
+        Some (record { value = l.value; len = l.len + 25 }) ≡ taken_as sheet_held (further 25 sheet_of f)
+    go x q v = let sum : l.len + 25 ≡ 25 + l.len = omega arith in rw (q, v, sum)
+
+pub second_within : (s : List ℕ) {l : Taken Sheet} → Some l ≡ taken_as fields_held (fields s) → l.len ≤ length s
+second_within s {l} e =
+    let (x, q, _) = found_as fields_held {t = l} (fields s) e in
+    takes_within (reads_fields.sound s x l.len q).0
 
 -- ---- the whole text
 
@@ -73,19 +65,21 @@ module _ (s : List ℕ) where
   unfolding parse
   parse_long h = rw (lt-leb (length s) 128 h)
 
-  module _ (l : Lines) (h : length s ≤ 128) (e : l ≡ lines_of (sheet_lines s)) where
-    pub parse-missing : l.found ≡ false → parse s ≡ none
+  module _ (h : length s ≤ 128) where
+    pub parse-missing : None ≡ taken_as sheet_held (sheet_lines s) → parse s ≡ none
     unfolding parse wholly
-    parse-missing t = rw (le-leb (length s) 128 h, no_lines l (sheet_lines s) e t)
+    parse-missing e = rw (le-leb (length s) 128 h, not_as sheet_held (sheet_lines s) e)
 
-    pub parse-part : l.found ≡ true → ¬ (l.len ≡ length s) → parse s ≡ none
-    unfolding parse wholly
-    parse-part t n =
-        let (x, f, _) = found_lines l (sheet_lines s) e t in
-        rw (le-leb (length s) 128 h, f, ne_eqb l.len (length s) n)
+    module _ {l : Taken Sheet} (e : Some l ≡ taken_as sheet_held (sheet_lines s)) where
+      pub parse-part : ¬ (l.len ≡ length s) → parse s ≡ none
+      unfolding parse wholly
+      parse-part n =
+          let (x, f, _) = found_as sheet_held {t = l} (sheet_lines s) e in
+          rw (le-leb (length s) 128 h, f, ne_eqb l.len (length s) n)
 
-    pub parse_whole : l.found ≡ true → l.len ≡ length s → parsed_of (parse s) ≡ record { found = true; sheet = l.sheet }
-    unfolding parse wholly parsed_of
-    parse_whole t q =
-        let (x, f, y) = found_lines l (sheet_lines s) e t in
-        rw (le-leb (length s) 128 h, f, eq-eqb l.len (length s) q, ← y)
+      pub parse_whole : l.len ≡ length s → Some l.value ≡ parsed_of (parse s)
+      unfolding parse wholly
+      parse_whole q = let (x, f, y) = found_as sheet_held {t = l} (sheet_lines s) e in go x f y
+        where
+          go : (x : RawSheet) → sheet_lines s ≡ found x l.len → l.value ≡ sheet_held x → Some l.value ≡ parsed_of (parse s)
+          go x f y = rw (le-leb (length s) 128 h, f, eq-eqb l.len (length s) q, y)

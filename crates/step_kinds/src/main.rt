@@ -2,12 +2,11 @@
 // Paper 7). The numbers are the library's. A write that fails ends the run, and standard error says so.
 #![tactic(auto)]
 
+use rotating_steps::Tally;
 use std::io;
 
 fn print_line(rt: &impl Print, rule: u8, n: usize) -> io::Result<()> {
-    let tally = rotating_steps::tally_of(rule, n);
-    let same = tally.same;
-    let other = tally.other;
+    let Tally { same, other } = rotating_steps::tally_of(rule, n);
     println!(rt; "{n} {rule} {same} {other}")
 }
 
@@ -21,9 +20,10 @@ fn print_rule(rt: &impl Print, rule: u8) -> io::Result<()> {
 
 // After a gap nothing is printed.
 fn print_rules(rt: &impl Print) -> io::Result<()> {
-    print_rule(rt, 1)?;
-    print_rule(rt, 2)?;
-    print_rule(rt, 3)
+    for rule in 1..=3 {
+        print_rule(rt, rule)?;
+    }
+    Ok(())
 }
 
 fn main(rt: HostRuntime) {

@@ -8,13 +8,13 @@ use lib.Dec.{leb}
 use lib.ListN.{length, take}
 use lib.Seq.{length-take-le, get_or-take}
 use borrow.Author.Tests.{le-leb, eq-eqb, ne_eqb}
+use Rattle.std.specs.Prelude.{Ok, Err}
 use Rattle.weak_orders.specs.Window.{is_length}
 use Rattle.weak_orders.proofs.FormTests.{says_length}
 use Rattle.weak_orders.proofs.Tests.{by_test, says?, says_no, not_true→false}
 use Rattle.ranking.specs.Counts.{a}
 use Rattle.successors.specs.NextSymbol.{next_symbol}
 use Rattle.successors.specs.Rules.{rule_of, in_form}
-use Rattle.successors.specs.declared.Next.TheVariants.{Symbol, Refused as NoSymbol}
 use Rattle.successors.proofs.Steppable.{Steppable, accepted as yes-judged, steppable_of, symbol_judged, no_symbol}
 use Rattle.refusals.specs.declared.Cause.{Cause}
 use Rattle.refusals.specs.declared.Cause.TheVariants.{NotBegun, StepNumber, RoundFinished}
@@ -72,7 +72,7 @@ module _ (s : Session) where
   not_begun_if e = not_true→false (has_begun s) (λ t. false≢true (sym e ∙ rw ((says_begun s).to t).round.form at t))
 
   module _ (l : length s.window ≡ 16) where
-    pub begun_symbol : {x : ℕ} → begun_if s true ≡ true → next_symbol s.rule s.n (take s.n s.window) ≡ Symbol x →
+    pub begun_symbol : {x : ℕ} → begun_if s true ≡ true → next_symbol s.rule s.n (take s.n s.window) ≡ Ok x →
         (has_begun s ≡ true) × (is_length s.n ≡ true) × (x ≡ rule_of s.rule (take s.n s.window))
     unfolding has_begun
     begun_symbol t e =
@@ -80,7 +80,7 @@ module _ (s : Session) where
         let (known, (long, form)) = steppable_of s.rule s.n s.window l passed in
         (rw form t, long, same)
 
-    pub begun_no_symbol : {c : Cause} → next_symbol s.rule s.n (take s.n s.window) ≡ NoSymbol c → has_begun s ≡ false
+    pub begun_no_symbol : {c : Cause} → next_symbol s.rule s.n (take s.n s.window) ≡ Err c → has_begun s ≡ false
     begun_no_symbol e = not_true→false (has_begun s) (λ t.
         let round = ((says_begun s).to t).round in
         let passed : Steppable s.rule s.n s.window = (round.known, ((says_length s.n).of (round.low, round.high), round.form)) in

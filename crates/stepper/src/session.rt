@@ -5,14 +5,13 @@ ghost use Rattle.weak_orders.specs.Window.{is_length};
 ghost use Rattle.ranking.specs.Counts.{a};
 ghost use Rattle.successors.specs.Rules.{rule_of};
 ghost use Rattle.frames.specs.Fields.{zeros};
-ghost use Rattle.stepper.specs.Exchange.{reply_if, begin_reply, in_second, begun_if, has_begun, fresh, refuse, accept, in_force};
+ghost use Rattle.stepper.specs.Exchange.{reply_if, begin_reply, in_second, is_numbered, begun_if, has_begun, fresh, refuse, accept, in_force};
 ghost use Rattle.stepper.specs.Exchange.{again_if, takes_if, onward, stepped, same_version, if_begun, step_numbered, step_of, query_of};
 
 use frames::answer::Reply;
 use frames::{field, question};
 use levels::Setting;
 use refusals::Cause;
-use successors::Next;
 
 // A session. Any values of the fields may be handed in; `has_begun` judges them. `begun` is a byte, since a session that a device kept
 // may hold any: 1 has begun, every other value has not. So is `version`, that of the begin frame in force: 2 is WKO2, every other value WKO1.
@@ -42,31 +41,26 @@ pub struct Exchanged {
 fn unused_zero(w: [u8; 16], n: usize) -> bool
     ensures { result ≡ zeros (drop n w) }
 {
-    if 16 < n {
-        return true;
-    }
-    frames::field::all_zero(&w[n..])
+    16 < n || field::all_zero(&w[n..])
 }
 
 // The reply to a begin frame for the round that the session holds: tests 6 to 9. `formed` says whether its window is in the rule's form. Inlined,
 // since each call would copy the session to the stack.
 #[inline(always)]
+#[tactic(auto, unfolding(crate::specs::Exchange::reply_if))]
 fn reply_if(s: Session, formed: bool) -> Reply
     ensures { result ≡ reply_if s formed }
 {
-    let n = s.n;
-    let w = s.window;
-    let setting = s.setting;
-    if !weak_orders::is_length(n) {
+    if !weak_orders::is_length(s.n) {
         return Reply::Refused(Cause::WindowLength);
     }
     if !successors::is_rule(s.rule) {
         return Reply::Refused(Cause::RuleNumber);
     }
-    if !(formed & unused_zero(w, n)) {
+    if !(formed && unused_zero(s.window, s.n)) {
         return Reply::Refused(Cause::NotWeakOrder);
     }
-    if !levels::setting_ok(n, setting) {
+    if !levels::setting_ok(s.n, s.setting) {
         return Reply::Refused(Cause::LevelSetting);
     }
     Reply::Accepted {
@@ -78,12 +72,12 @@ fn reply_if(s: Session, formed: bool) -> Reply
 pub fn begin_reply(s: Session) -> Reply
     ensures { result ≡ begin_reply s }
 {
-    let w = s.window;
-    reply_if(s, successors::in_form(s.rule, w, s.n))
+    reply_if(s, successors::in_form(s.rule, s.window, s.n))
 }
 
 impl Session {
     // A session that has not begun, and holds no table.
+    #[tactic(auto, unfolding(crate::specs::Exchange::fresh))]
     pub fn fresh() -> Session
         ensures { result ≡ fresh }
     {
@@ -94,9 +88,9 @@ impl Session {
             n: 0,
             rule: 0,
             setting: levels::setting_of(0, 0),
-            window: [0u8; 16],
+            window: [0; 16],
             done: 0,
-            held: [0i16; 16],
+            held: [0; 16],
         }
     }
 
@@ -123,24 +117,26 @@ impl Session {
         }
     }
 
+    // A WKO2 round has a number from 1 on.
+    #[tactic(auto, unfolding(crate::specs::Exchange::is_numbered, crate::specs::Exchange::in_second))]
+    fn is_numbered(self) -> bool
+        ensures { result ≡ is_numbered self }
+    {
+        self.version != 2 || self.round != 0
+    }
+
     // Document 01's "counts as begun", where `formed` says whether the window is in the rule's form.
     #[inline(always)]
     fn begun_if(self, formed: bool) -> bool
         ensures { result ≡ begun_if self formed }
     {
-        let n = self.n;
-        let done = self.done;
-        let begun = self.begun;
-        let numbered = !((self.version == 2) & (self.round == 0));
-        if begun != 1 {
+        if self.begun != 1 {
             return false;
         }
-        let reply = reply_if(self, formed);
-        match reply {
-            Reply::Accepted {
-                symbol: _,
-                level: _,
-            } => (done <= ranking::weak_order_count(n)) & numbered,
+        match reply_if(self, formed) {
+            Reply::Accepted { .. } => {
+                self.done <= ranking::weak_order_count(self.n) && self.is_numbered()
+            }
             Reply::Refused(_) => false,
         }
     }
@@ -148,15 +144,15 @@ impl Session {
     pub fn has_begun(self) -> bool
         ensures { result ≡ has_begun self }
     {
-        let w = self.window;
-        self.begun_if(successors::in_form(self.rule, w, self.n))
+        self.begun_if(successors::in_form(self.rule, self.window, self.n))
     }
 
     // A WKO2 round is in force.
+    #[tactic(auto, unfolding(crate::specs::Exchange::in_force, crate::specs::Exchange::in_second))]
     pub fn in_force(self) -> bool
         ensures { result ≡ in_force self }
     {
-        self.has_begun() & (self.version == 2)
+        self.has_begun() && self.version == 2
     }
 
     // The begin frame in force again, with no step done: while none is, the session gives its forty bytes back. `force` says whether a WKO2
@@ -164,37 +160,37 @@ impl Session {
     pub fn is_again(self, force: bool, f: [u8; 40]) -> bool
         ensures { result ≡ again_if self force f }
     {
-        let n = self.n;
-        let done = self.done;
-        let setting = self.setting;
-        let window = self.window;
+        let Ok(n) = u8::try_from(self.n) else {
+            return false;
+        };
         if !force {
             return false;
         }
-        if 255 < n {
-            return false;
-        }
-        let begun_by = question::begin_bytes(true, n as u8, self.rule, self.round, setting, window);
-        (done == 0) & field::same(&f, &begun_by)
+        let begun_by = question::begin_bytes(
+            true,
+            n,
+            self.rule,
+            self.round,
+            self.setting,
+            self.window,
+        );
+        self.done == 0 && field::same(&f, &begun_by)
     }
 
     // A begin frame with the round number of the WKO2 round in force.
+    #[tactic(auto, unfolding(crate::specs::Exchange::takes_if))]
     pub fn takes_number(self, force: bool, f: [u8; 40]) -> bool
         ensures { result ≡ takes_if self force f }
     {
-        let round = f[7];
-        let second = question::is_second(&f);
-        force & (second & (round == self.round))
+        force && question::is_second(&f) && f[7] == self.round
     }
 
     // A frame of the second version, or of the first, is in the version of the round.
+    #[tactic(auto, unfolding(crate::specs::Exchange::same_version, crate::specs::Exchange::in_second))]
     fn is_version(self, second: bool) -> bool
         ensures { result ≡ same_version second (in_second self) }
     {
-        if second {
-            return self.version == 2;
-        }
-        self.version != 2
+        second == (self.version == 2)
     }
 
     // A refusal that comes behind test 10.
@@ -207,16 +203,13 @@ impl Session {
         self.refuse(cause)
     }
 
-    // The symbol appended, and one more step done, which is `number`.
+    // The symbol appended, and one more step done, which is `number`. Field by field: `..self` took 64 bytes more of stack in `wko_exchange`.
     fn onward(self, number: u64, symbol: u8) -> Session
         requires { (is_length self.n ≡ true) × (symbol ≡ rule_of self.rule (take self.n self.window)) × (number ≡ self.done + 1) }
         ensures { result ≡ onward self }
     {
-        let n = self.n;
-        let w = self.window;
         let mut next = self;
-        let v = weak_orders::shift(w, n, symbol);
-        next.window = v;
+        next.window = weak_orders::shift(self.window, self.n, symbol);
         next.done = number;
         next
     }
@@ -226,12 +219,8 @@ impl Session {
         requires { is_length self.n ≡ true }
         ensures { result ≡ stepped self }
     {
-        let n = self.n;
-        let rule = self.rule;
-        let setting = self.setting;
-        let w = self.window;
-        let symbol = w[n - 1];
-        let level = levels::level(rule, setting, symbol);
+        let symbol = self.window[self.n - 1];
+        let level = levels::level(self.rule, self.setting, symbol);
         Exchanged {
             session: self,
             reply: Reply::Accepted { symbol, level },
@@ -242,12 +231,7 @@ impl Session {
     fn is_next(self, number: u64) -> bool
         ensures { Says result ((number ≡ self.done + 1) × (self.done < cond (leb self.n 16) (a self.n) 0)) }
     {
-        let n = self.n;
-        let done = self.done;
-        if number == 0 {
-            return false;
-        }
-        (number - 1 == done) & (done < ranking::weak_order_count(n))
+        self.done.checked_add(1) == Some(number) && self.done < ranking::weak_order_count(self.n)
     }
 
     // The next step. What gives the symbol tests the window's form, so that it is tested once a frame.
@@ -255,14 +239,12 @@ impl Session {
         requires { (number ≡ self.done + 1) × (self.done < cond (leb self.n 16) (a self.n) 0) }
         ensures { result ≡ if_begun self (step_numbered self number) }
     {
-        let w = self.window;
         if !self.begun_if(true) {
             return self.refuse(Cause::NotBegun);
         }
-        let next = successors::next_symbol(self.rule, w, self.n);
-        match next {
-            Next::Symbol(s) => self.onward(number, s).stepped(),
-            Next::Refused(_) => self.refuse(Cause::NotBegun),
+        match successors::next_symbol(self.rule, self.window, self.n) {
+            Ok(symbol) => self.onward(number, symbol).stepped(),
+            Err(_) => self.refuse(Cause::NotBegun),
         }
     }
 
@@ -271,30 +253,30 @@ impl Session {
         requires { number ≡ self.done + 1 → self.done < cond (leb self.n 16) (a self.n) 0 → ⊥ }
         ensures { result ≡ if_begun self (step_numbered self number) }
     {
-        let done = self.done;
         if !self.has_begun() {
             return self.refuse(Cause::NotBegun);
         }
         if number == 0 {
             return self.refuse(Cause::StepNumber);
         }
-        if number == done {
+        if number == self.done {
             return self.stepped();
         }
-        if number - 1 != done {
+        if number - 1 != self.done {
             return self.refuse(Cause::StepNumber);
         }
         self.refuse(Cause::RoundFinished)
     }
 
     // A step frame of the second version or the first, with a round number, which counts in the second.
+    #[tactic(auto, unfolding(crate::specs::Exchange::step_of, crate::specs::Exchange::if_version))]
     pub fn step(self, second: bool, round: u8, number: u64) -> Exchanged
         ensures { result ≡ step_of self second round number }
     {
         if !self.is_version(second) {
             return self.refuse_begun(Cause::OtherVersion);
         }
-        if second & (round != self.round) {
+        if second && round != self.round {
             return self.refuse_begun(Cause::OtherRound);
         }
         if self.is_next(number) {
@@ -304,6 +286,7 @@ impl Session {
     }
 
     // A query frame changes nothing, and has no symbol and no level.
+    #[tactic(auto, unfolding(crate::specs::Exchange::query_of, crate::specs::Exchange::if_begun, crate::specs::Exchange::if_version))]
     pub fn query(self, second: bool) -> Exchanged
         ensures { result ≡ query_of self second }
     {

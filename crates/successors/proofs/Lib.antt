@@ -3,11 +3,13 @@ pub mod Singles
 pub mod SetR
 pub mod Rule1
 pub mod Rules23
-pub mod Scans
+pub mod Chains
 pub mod Windows
 pub mod Tables
 pub mod Rule1Cases
+pub mod RankWindows
 pub mod SetRTests
+pub mod HeightWindows
 pub mod RuleNumbers
 pub mod StepForm
 pub mod Steppable

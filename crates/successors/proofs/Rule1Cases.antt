@@ -2,10 +2,11 @@
 use mathlib.Core.Bool.{Bool, true, false, cond, not, ◌&&◌}
 use mathlib.Core.List.{List, ◌∷◌}
 use mathlib.Core.Logic.{◌≢◌}
-use mathlib.Core.Path.{◌≡◌, refl, ◌∙◌}
+use mathlib.Core.Path.{◌≡◌, ◌∙◌}
 use Prim.Native.Nat.{ℕ, ◌+◌, ◌-◌, ◌≤◌, ◌<◌}
 use native.Mathlib.Omega.{arith}
 use native.Mathlib.Numerals.{add-one}
+use Rattle.std.proofs.Math.Bool.{and-false}
 use lib.Dec.{eqb}
 use lib.ListN.{take, drop}
 use borrow.Author.Tests.{lt-ltb, le-ltb, eq-eqb, ne_eqb}
@@ -19,10 +20,6 @@ use Rattle.successors.specs.Rules.{rule1, is_plain, single, before, case3, case4
 use Rattle.successors.proofs.Tables.{passes_by-single, all_cong}
 use Rattle.successors.proofs.Windows.{mem_part}
 
-and_false : (a : Bool) → (a && false) ≡ false
-and_false true = refl
-and_false false = refl
-
 -- the window u is the first symbol x and the others, b
 module _ (u : List ℕ) (x : ℕ) (b : List ℕ) (e : u ≡ x ∷ b) where
   pub case3_plain : is_plain u ≡ true → false ≡ case3 x b
@@ -31,11 +28,11 @@ module _ (u : List ℕ) (x : ℕ) (b : List ℕ) (e : u ≡ x ∷ b) where
 
   pub case3_low : x ≤ 1 → false ≡ case3 x b
   unfolding case3
-  case3_low h = rw (le-ltb 1 x h, and_false)
+  case3_low h = rw (le-ltb 1 x h, and-false)
 
   pub case3_once : num u x ≤ 1 → false ≡ case3 x b
   unfolding case3
-  case3_once h = rw (le-ltb 1 (num (x ∷ b) x) (rw e at h)) (simp and_false)
+  case3_once h = rw (le-ltb 1 (num (x ∷ b) x) (rw e at h)) (simp and-false)
 
   pub case3_clear : is_plain u ≡ false → 1 < x → 1 < num u x → all (single u) (before (start u) u) ≡ case3 x b
   unfolding case3
@@ -48,11 +45,11 @@ module _ (u : List ℕ) (x : ℕ) (b : List ℕ) (e : u ≡ x ∷ b) where
 
     pub case4_many : num u x ≢ 1 → false ≡ case4 x b p
     unfolding case4
-    case4_many h = rw (ne_eqb (num (x ∷ b) x) 1 (rw e at h), and_false)
+    case4_many h = rw (ne_eqb (num (x ∷ b) x) 1 (rw e at h), and-false)
 
     pub case4_one : p ≡ 1 → false ≡ case4 x b p
     unfolding case4
-    case4_one h = rw (eq-eqb p 1 h) (simp and_false)
+    case4_one h = rw (eq-eqb p 1 h) (simp and-false)
 
     pub case4_clear : 1 < x → num u x ≡ 1 → p ≢ 1 →
         all (λ v. not (eqb v p) && single u v) (before (start (p ∷ b)) u) ≡ case4 x b p

@@ -1,36 +1,32 @@
 -- Membership in R by tests on the window, and rules 2 and 3 by membership in R. Assumes nothing.
-use mathlib.Core.Bool.{Bool, true, false, ◌&&◌}
+use mathlib.Core.Bool.{Bool, true, false}
 use mathlib.Core.List.{List, ◌∷◌}
-use mathlib.Core.Path.{◌≡◌, refl, sym, subst}
+use mathlib.Core.Path.{◌≡◌, sym, subst}
 use Prim.Native.Nat.{ℕ, zero, suc, ◌+◌, ◌-◌, ◌≤◌, ◌<◌}
 use native.Mathlib.Omega.{arith}
 use native.Mathlib.Decide.{dec_lt}
 use native.Mathlib.Numerals.{add-one}
-use lib.Dec.{leb}
-use lib.ListN.{drop}
+use Rattle.std.proofs.Math.Bool.{and-true}
+use lib.Dec.{leb, eqb}
 use borrow.Author.Tests.{leb-true, le-leb}
+use Rattle.std.specs.List.{list_all, list_any, range_with_len}
 use Rattle.weak_orders.specs.Says.{Says}
-use Rattle.weak_orders.specs.Window.{all, range, occurs, is_height}
+use Rattle.weak_orders.specs.Window.{is_height}
 use Rattle.weak_orders.proofs.HeightForm.{says_height}
-use Rattle.weak_orders.proofs.Symbols.{says_occurs}
-use Rattle.weak_orders.proofs.Tests.{◌∈◌, here, there, split_mem, not_true→false, false→not_true, says_no, says_as, says_all}
+use Rattle.weak_orders.proofs.Tests.{◌∈◌, here, there, split_mem, not_true→false, false→not_true, says_no, says_as}
 use Rattle.rotations.specs.Rotation.{is_greatest}
 use Rattle.successors.specs.Rules.{in_r, in_r⁻, rule2, rule3}
 use Rattle.successors.proofs.SetR.{R_height, R_first, R_positive, says_zeros}
-use Rattle.successors.proofs.Scans.{in_drop-range, of_drop-range}
+use Rattle.successors.proofs.Chains.{says_list_all, says_between, says_contains}
 
-pub says_none_above : (x : ℕ) (b : List ℕ) → Says (all (λ v. leb v x) b) ((v : ℕ) → v ∈ b → v ≤ x)
-says_none_above x b = says_all (λ v. record { to = leb-true v x; of = le-leb v x }) b
+pub says_none_above : (x : ℕ) (b : List ℕ) → Says (list_all (λ v. leb v x) b) ((v : ℕ) → v ∈ b → v ≤ x)
+says_none_above x b = says_list_all (λ v. record { to = leb-true v x; of = le-leb v x }) b
 
 -- each number from a up to x occurs in b
-pub says_from : (b : List ℕ) (a x : ℕ) → Says (all (occurs b) (drop a (range x))) ((v : ℕ) → a ≤ v → v < x → v ∈ b)
-says_from b a x = says_as (says_all (says_occurs b) (drop a (range x)))
-    (λ h v le lt. h v (in_drop-range a x v le lt))
-    (λ h v m. let (le, lt) = of_drop-range a x v m in h v le lt)
-
-and_true : (a : Bool) → a ≡ (a && true)
-and_true true = refl
-and_true false = refl
+pub says_from : (b : List ℕ) (a x : ℕ) → Says (list_all (λ v. list_any (λ y. eqb y v) b) (range_with_len a (x - a))) ((v : ℕ) → a ≤ v → v < x → v ∈ b)
+says_from b a x = says_as (says_between (λ v. list_any (λ y. eqb y v) b) a (x - a))
+    (λ h v le lt. (says_contains v b).to (h v le (omega arith)))
+    (λ h v le lt. (says_contains v b).of (h v le (omega arith)))
 
 -- ---- the window with the first symbol x and the others b
 
@@ -42,7 +38,7 @@ in_r-positive zero b r = absurd (R_positive b r)
 in_r-positive (suc x) b r = omega arith
 
 -- a larger symbol behind the first
-pub in_r_above : (x y : ℕ) (b : List ℕ) → all (λ v. leb v y) b ≡ false → x ≤ y → in_r (x ∷ b) ≡ false
+pub in_r_above : (x y : ℕ) (b : List ℕ) → list_all (λ v. leb v y) b ≡ false → x ≤ y → in_r (x ∷ b) ≡ false
 in_r_above x y b f le = not_true→false (in_r (x ∷ b)) (λ r.
     false→not_true _ f ((says_none_above y b).of (λ v m. omega (arith, R_first x b r v (there m)))))
 
@@ -52,16 +48,16 @@ module _ (a x : ℕ) (b : List ℕ) (form : is_height (a ∷ b) ≡ true) where
   behind y v h lt = split_mem (λ e. absurd (omega arith)) (λ m. m) ((says_height (y ∷ b)).to h y here v lt)
 
   -- a symbol below x missing
-  pub in_r_gap : all (occurs b) (drop a (range x)) ≡ false → in_r (x ∷ b) ≡ false
+  pub in_r_gap : list_all (λ v. list_any (λ y. eqb y v) b) (range_with_len a (x - a)) ≡ false → in_r (x ∷ b) ≡ false
   in_r_gap f = not_true→false (in_r (x ∷ b)) (λ r.
       false→not_true _ f ((says_from b a x).of (λ v le lt. behind x v (R_height (x ∷ b) r) lt)))
 
   -- neither: the rotations decide
-  pub in_r_greatest : 0 < x → all (λ v. leb v x) b ≡ true → all (occurs b) (drop a (range x)) ≡ true →
+  pub in_r_greatest : 0 < x → list_all (λ v. leb v x) b ≡ true → list_all (λ v. list_any (λ y. eqb y v) b) (range_with_len a (x - a)) ≡ true →
       is_greatest (x ∷ b) (x ∷ b) ≡ in_r (x ∷ b)
   unfolding in_r
   in_r_greatest pos top full =
-      rw (height, says_no (says_zeros (x ∷ b)) (λ z. omega (arith, z x here))) (and_true (is_greatest (x ∷ b) (x ∷ b)))
+      rw (height, says_no (says_zeros (x ∷ b)) (λ z. omega (arith, z x here))) (sym (and-true (is_greatest (x ∷ b) (x ∷ b))))
     where
       below : (v : ℕ) → v < x → v ∈ b
       below v lt = elim (dec_lt v a) [ yes l ↦ behind a v form l | no l ↦ (says_from b a x).to full v (omega arith) lt ]

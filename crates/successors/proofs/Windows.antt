@@ -13,7 +13,6 @@ use Rattle.weak_orders.proofs.Tests.{◌∈◌, here}
 use Rattle.rotations.specs.Rotation.{start, rotation}
 use Rattle.rotations.proofs.Orders.{lex_head}
 use Rattle.rotations.proofs.Rotations.{start_first, to_front}
-use Rattle.successors.specs.ByTable.{Low}
 use Rattle.successors.specs.Rules.{before}
 
 -- n symbols, 1 to 16 of them, stand first in an array of 16
@@ -38,9 +37,6 @@ module _ {w : List ℕ} {n : ℕ} (a : InArray w n) where
 -- a member of a part is a member of the whole
 pub mem_part : (a j : ℕ) (l : List ℕ) (v : ℕ) → v ∈ drop a (take j l) → v ∈ l
 mem_part a j l v m = mem_take j l v (rw take-append-drop at (Memᴰ.append_right (take a (take j l)) m))
-
-pub low_front : (w : List ℕ) (j n : ℕ) → j ≤ n → Low (take n w) → Low (take j w)
-low_front w j n le low v m = low v (mem_part 0 j (take n w) v (rw (take-take j n w le) m))
 
 -- `start` is an index of the window
 pub start_bounds : (w : List ℕ) → 0 < length w → (1 ≤ start w) × (start w ≤ length w)

@@ -1,10 +1,9 @@
 -- What is proved of the rules and of a step, for windows of every length.
-use Rattle.std.specs.Prelude.{true, List, [], ◌∷◌, ◌≡◌, ℕ, ◌≤◌, length}
+use Rattle.std.specs.Prelude.{true, List, [], ◌∷◌, ◌≡◌, ℕ, ◌≤◌, Ok, Err, length}
 use Rattle.weak_orders.specs.Window.{is_rank}
 use Rattle.refusals.specs.declared.Cause.TheVariants.{WindowLength, RuleNumber, NotWeakOrder}
 use Rattle.successors.specs.Rules.{rule1, rule2, rule3, rule_of, in_form, WeakOrder, is_rule, step}
 use Rattle.successors.specs.StepBack.{previous_of, predecessor, previous_symbol}
-use Rattle.successors.specs.declared.Next.TheVariants.{Symbol, Refused}
 
 -- behind the same symbols b rule 1 undoes itself, and rules 2 and 3 undo each other
 pub record RulesUndo : Type 0 where
@@ -36,7 +35,7 @@ pub record StepBackValues : Type 0 where
   pub rule2_101 : predecessor 2 (1 ∷ 0 ∷ 1 ∷ []) ≡ 0 ∷ 1 ∷ 0 ∷ []
   pub rule3_102 : predecessor 3 (1 ∷ 0 ∷ 2 ∷ []) ≡ 0 ∷ 1 ∷ 0 ∷ []
   pub by_itself : (rule2 (1 ∷ 1 ∷ 0 ∷ []) ≡ 2) × (rule3 (2 ∷ 1 ∷ 0 ∷ []) ≡ 1)
-  pub answer : previous_symbol 2 3 (1 ∷ 0 ∷ 1 ∷ []) ≡ Symbol 0
-  pub bad_length : previous_symbol 4 17 [] ≡ Refused WindowLength
-  pub bad_rule : previous_symbol 4 3 [] ≡ Refused RuleNumber
-  pub bad_window : previous_symbol 2 3 (0 ∷ 2 ∷ 2 ∷ []) ≡ Refused NotWeakOrder
+  pub answer : previous_symbol 2 3 (1 ∷ 0 ∷ 1 ∷ []) ≡ Ok 0
+  pub bad_length : previous_symbol 4 17 [] ≡ Err WindowLength
+  pub bad_rule : previous_symbol 4 3 [] ≡ Err RuleNumber
+  pub bad_window : previous_symbol 2 3 (0 ∷ 2 ∷ 2 ∷ []) ≡ Err NotWeakOrder

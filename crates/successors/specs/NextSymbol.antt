@@ -1,13 +1,10 @@
 -- What `can_step`, `judge`, `next_symbol` and `step` answer for every rule, window and n (document 01, "Turned down": direct calls).
-use Rattle.std.specs.Prelude.{Bool, cond, not, ◌&&◌, List, ℕ, eqb, length, take}
+use Rattle.std.specs.Prelude.{Bool, cond, not, ◌&&◌, List, ℕ, Result, Ok, Err, eqb, length, take}
 use Rattle.refusals.specs.Numbers.{refusal}
+use Rattle.refusals.specs.declared.Cause.{Cause}
 use Rattle.refusals.specs.declared.Cause.TheVariants.{WindowLength, RuleNumber, NotWeakOrder}
-use Rattle.refusals.specs.declared.Verdict.{Verdict}
-use Rattle.refusals.specs.declared.Verdict.TheVariants.{Accepted as Passed, Refused as Failed}
 use Rattle.weak_orders.specs.Window.{is_length, padded}
 use Rattle.successors.specs.Rules.{rule_of, in_form, is_rule, step}
-use Rattle.successors.specs.declared.Next.{Next}
-use Rattle.successors.specs.declared.Next.TheVariants.{Symbol, Refused}
 
 -- there is such a rule, and the first n symbols of the array are a weak order of n in its form
 unfoldable pub steppable : ℕ → ℕ → List ℕ → Bool
@@ -20,24 +17,25 @@ unfolding steppable padded step rule_of
 step_or_stay rule n w = cond (steppable rule n w) (padded (step (rule_of rule) (take n w))) w
 
 -- a window of n under a rule: tests 6, 7 and 8, and 8 covers one that is not n long
-unfoldable pub judged : ℕ → ℕ → List ℕ → Verdict
+unfoldable pub judged : ℕ → ℕ → List ℕ → Result (Unit {0}) Cause
 unfolding is_length is_rule in_form
 judged rule n w =
-    cond (not (is_length n)) (Failed WindowLength) (
-    cond (not (is_rule rule)) (Failed RuleNumber) (
-    cond (not (eqb (length w) n && in_form rule w)) (Failed NotWeakOrder)
-    Passed))
+    cond (not (is_length n)) (Err WindowLength) (
+    cond (not (is_rule rule)) (Err RuleNumber) (
+    cond (not (eqb (length w) n && in_form rule w)) (Err NotWeakOrder)
+    (Ok tt)))
 
--- a symbol for an answer, by the verdict on the window; and what a direct call returns for an answer
-unfoldable pub symbol_by : Verdict → ℕ → Next
-symbol_by Passed s = Symbol s
-symbol_by (Failed cause) s = Refused cause
+-- what is answered for an accepted window, or why nothing is
+unfoldable pub answer_by : {A : Type 0} → Result (Unit {0}) Cause → A → Result A Cause
+answer_by (Ok _) x = Ok x
+answer_by (Err cause) x = Err cause
 
-abbrev pub next_number : Next → ℕ
-next_number (Symbol s) = s
-next_number (Refused cause) = refusal cause
+-- what a direct call returns for a symbol
+abbrev pub next_number : Result ℕ Cause → ℕ
+next_number (Ok s) = s
+next_number (Err cause) = refusal cause
 
 -- the symbol that follows a window
-unfoldable pub next_symbol : ℕ → ℕ → List ℕ → Next
-unfolding symbol_by judged rule_of
-next_symbol rule n w = symbol_by (judged rule n w) (rule_of rule w)
+unfoldable pub next_symbol : ℕ → ℕ → List ℕ → Result ℕ Cause
+unfolding answer_by judged rule_of
+next_symbol rule n w = answer_by (judged rule n w) (rule_of rule w)

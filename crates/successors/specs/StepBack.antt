@@ -1,9 +1,9 @@
 -- The step back (document 02, Paper 13): the window before w, and what `previous_symbol` answers for every rule, window and n.
-use Rattle.std.specs.Prelude.{cond, List, ◌∷◌, ℕ, ◌-◌, eqb, length, take}
+use Rattle.std.specs.Prelude.{cond, List, ◌∷◌, ℕ, Result, ◌-◌, eqb, length, take}
+use Rattle.refusals.specs.declared.Cause.{Cause}
 use Rattle.rotations.specs.Rotation.{turned_back}
-use Rattle.successors.specs.NextSymbol.{judged, symbol_by}
+use Rattle.successors.specs.NextSymbol.{judged, answer_by}
 use Rattle.successors.specs.Rules.{rule_of}
-use Rattle.successors.specs.declared.Next.{Next}
 
 -- the rule that undoes a rule behind the same symbols: 1 itself, and 2 and 3 each other
 unfoldable pub undoing : ℕ → ℕ
@@ -20,6 +20,6 @@ unfolding previous_of
 predecessor r w = previous_of r w ∷ take (length w - 1) w
 
 -- the symbol, refused as the next one is
-unfoldable pub previous_symbol : ℕ → ℕ → List ℕ → Next
-unfolding symbol_by judged previous_of
-previous_symbol rule n w = symbol_by (judged rule n w) (previous_of rule w)
+unfoldable pub previous_symbol : ℕ → ℕ → List ℕ → Result ℕ Cause
+unfolding answer_by judged previous_of
+previous_symbol rule n w = answer_by (judged rule n w) (previous_of rule w)

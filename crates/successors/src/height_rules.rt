@@ -1,123 +1,99 @@
-// Rules 2 and 3, on windows in height form.
-ghost use Rattle.std.specs.Prelude.{true, ◌∷◌, ◌≡◌, ◌≤◌, leb, take, drop};
-ghost use Rattle.weak_orders.specs.Window.{all, range, occurs, is_height};
+// Rules 2 and 3, on windows in height form. They ask other questions in another order, so neither is the other with a constant changed.
+ghost use Rattle.std.specs.List.{list_all, list_any, slice_range, range_with_len};
+ghost use Rattle.std.specs.Prelude.{true, ◌∷◌, ◌≡◌, ◌==◌, ◌-◌, ◌≤◌, leb, take};
+ghost use Rattle.weak_orders.specs.Window.{is_height};
 ghost use Rattle.successors.specs.Rules.{in_r, rule2, rule3};
 
-use rotations::Standing;
+// A window of n in height form.
+#[derive(Clone, Copy)]
+pub(crate) struct HeightWindow {
+    pub(crate) w: [u8; 16],
+    pub(crate) n: usize,
+    ghost some: { 1 ≤ n },
+    ghost most: { n ≤ 16 },
+    ghost form: { is_height (take n w) ≡ true },
+}
 
-// No symbol behind the first is larger than x.
-fn none_above(w: [u8; 16], n: usize, x: u8) -> bool
-    requires { n ≤ 16 }
-    ensures { result ≡ all (λ v. leb v x) (drop 1 (take n w)) }
-{
-    let mut i = 1;
-    while i < n {
-        if x < w[i] {
+impl HeightWindow {
+    // No symbol behind the first is larger than x.
+    fn none_above(&self, x: u8) -> bool
+        ensures { result ≡ list_all (λ v. leb v x) (slice_range self.now.w 1 self.now.n) }
+    {
+        self.w[1..self.n].iter().all(|&v| v <= x)
+    }
+
+    // The symbol v occurs behind the first. `contains` reads groups of bytes through buffers of its own, which took 600 bytes of stack.
+    fn occurs_behind(&self, v: u8) -> bool
+        ensures { result ≡ list_any (λ y. y == v) (slice_range self.now.w 1 self.now.n) }
+    {
+        self.w[1..self.n].iter().any(|&y| y == v)
+    }
+
+    // Every symbol from a up to x, x not included, occurs behind the first.
+    fn all_behind(&self, a: u8, x: u8) -> bool
+        ensures { result ≡ list_all (λ v. list_any (λ y. y == v) (slice_range self.now.w 1 self.now.n)) (range_with_len a (x - a)) }
+    {
+        (a..x).all(|v| self.occurs_behind(v))
+    }
+
+    // The window with x for its first symbol is in R. The symbols below the window's own first symbol need no test: in a window in height
+    // form they all occur behind it.
+    #[tactic(auto, using(crate::proofs::HeightWindows::in_r_cases))]
+    fn in_r(&self, x: u8) -> bool
+        ensures { result ≡ in_r (x ∷ slice_range self.now.w 1 self.now.n) }
+    {
+        if x == 0 || !self.none_above(x) || !self.all_behind(self.w[0], x) {
             return false;
         }
-        i += 1;
+        let mut v = self.w;
+        v[0] = x;
+        rotations::own_standing(v, self.n).is_some()
     }
-    true
-}
 
-// The symbol v occurs behind the first.
-fn occurs_behind(w: [u8; 16], n: usize, v: u8) -> bool
-    requires { n ≤ 16 }
-    ensures { result ≡ occurs (drop 1 (take n w)) v }
-{
-    let mut i = 1;
-    while i < n {
-        if w[i] == v {
-            return true;
+    // The symbol that follows by rule 2. Where a symbol behind is larger than w1 + 1, no first symbol up to w1 + 1 puts the window in R:
+    // most windows end there.
+    #[tactic(auto, using(crate::proofs::HeightWindows::rule2_cases))]
+    pub(crate) fn successor2(&self) -> u8
+        ensures { result ≡ rule2 (take self.now.n self.now.w) }
+    {
+        let a = self.w[0];
+        let up = a + 1;
+        if !self.none_above(up) {
+            return a;
         }
-        i += 1;
-    }
-    false
-}
-
-// Every symbol from a up to x, x not included, occurs behind the first.
-fn all_behind(w: [u8; 16], n: usize, a: u8, x: u8) -> bool
-    requires { n ≤ 16 }
-    ensures { result ≡ all (occurs (drop 1 (take n w))) (drop a (range x)) }
-{
-    let mut v = a;
-    while v < x {
-        if !occurs_behind(w, n, v) {
-            return false;
+        if self.in_r(up) {
+            return up;
         }
-        v += 1;
+        if !self.in_r(a) {
+            return a;
+        }
+        let down = a - 1;
+        if self.in_r(down) {
+            return down - 1;
+        }
+        down
     }
-    true
-}
 
-// The window with x for its first symbol is in R. The symbols below the window's own first symbol need no test: in a window in height
-// form they all occur behind it.
-fn in_r(w: [u8; 16], n: usize, x: u8) -> bool
-    requires { (1 ≤ n) × (n ≤ 16) × (is_height (take n w) ≡ true) }
-    ensures { result ≡ in_r (x ∷ drop 1 (take n w)) }
-{
-    let a = w[0];
-    if x == 0 {
-        return false;
+    // The symbol that follows by rule 3, with the same first test.
+    #[tactic(auto, using(crate::proofs::HeightWindows::rule3_cases))]
+    pub(crate) fn successor3(&self) -> u8
+        ensures { result ≡ rule3 (take self.now.n self.now.w) }
+    {
+        let a = self.w[0];
+        let up = a + 1;
+        let top = a + 2;
+        if !self.none_above(up) {
+            return a;
+        }
+        if self.in_r(a) {
+            return a - 1;
+        }
+        if !self.in_r(up) {
+            return a;
+        }
+        if self.in_r(top) {
+            return top;
+        }
+        up
     }
-    if !none_above(w, n, x) {
-        return false;
-    }
-    if !all_behind(w, n, a, x) {
-        return false;
-    }
-    let mut v = w;
-    v[0] = x;
-    let standing = rotations::own_standing(v, n);
-    match standing {
-        Standing::Greatest { period: _ } => true,
-        Standing::Behind => false,
-    }
-}
-
-// The symbol that follows a window by rule 2. Where a symbol behind is larger than w1 + 1, no first symbol up to w1 + 1 puts the
-// window in R: most windows end there.
-pub(crate) fn successor2(w: [u8; 16], n: usize) -> u8
-    requires { (1 ≤ n) × (n ≤ 16) × (is_height (take n w) ≡ true) }
-    ensures { result ≡ rule2 (take n w) }
-{
-    let a = w[0];
-    let up = a + 1;
-    if !none_above(w, n, up) {
-        return a;
-    }
-    if in_r(w, n, up) {
-        return up;
-    }
-    if !in_r(w, n, a) {
-        return a;
-    }
-    let down = a - 1;
-    if in_r(w, n, down) {
-        return down - 1;
-    }
-    down
-}
-
-// The symbol that follows a window by rule 3, with the same first test.
-pub(crate) fn successor3(w: [u8; 16], n: usize) -> u8
-    requires { (1 ≤ n) × (n ≤ 16) × (is_height (take n w) ≡ true) }
-    ensures { result ≡ rule3 (take n w) }
-{
-    let a = w[0];
-    let up = a + 1;
-    let top = a + 2;
-    if !none_above(w, n, up) {
-        return a;
-    }
-    if in_r(w, n, a) {
-        return a - 1;
-    }
-    if !in_r(w, n, up) {
-        return a;
-    }
-    if in_r(w, n, top) {
-        return top;
-    }
-    up
 }

@@ -15,12 +15,13 @@ ghost use Rattle.successors.specs.RotationUnder.{rotation_answer};
 ghost use Rattle.successors.specs.Rules.{in_form, is_rule};
 ghost use Rattle.successors.specs.StepBack.{undoing, previous_symbol};
 
-use height_rules::{successor2, successor3};
+use height_rules::HeightWindow;
 use rank_rule::next_in_ranks;
-use refusals::{Cause, Verdict};
+use refusals::Cause;
 use rotations::Rotation;
 
 // The first n symbols are a weak order of n in the rule's form: ranks for rule 1, heights for the others.
+#[tactic(auto, unfolding(crate::specs::Rules::in_form, weak_orders::specs::Converted::is_rank_window, weak_orders::specs::Converted::is_height_window))]
 pub fn in_form(rule: u8, w: [u8; 16], n: usize) -> bool
     ensures { result ≡ (is_length n && in_form rule (take n w)) }
 {
@@ -30,74 +31,68 @@ pub fn in_form(rule: u8, w: [u8; 16], n: usize) -> bool
     weak_orders::is_height(w, n)
 }
 
-// The rules are 1, 2 and 3.
+// The rules are 1, 2 and 3. A rule is a number and no enum, since C and frames may carry any, and each is answered.
+#[tactic(auto, unfolding(crate::specs::Rules::is_rule))]
 pub fn is_rule(rule: u8) -> bool
     ensures { result ≡ is_rule rule }
 {
-    (1 <= rule) & (rule <= 3)
+    (1..=3).contains(&rule)
 }
 
 // There is such a rule, and the window is in its form.
+#[tactic(auto, unfolding(crate::specs::NextSymbol::steppable))]
 pub fn can_step(rule: u8, w: [u8; 16], n: usize) -> bool
     ensures { result ≡ steppable rule n w }
 {
-    is_rule(rule) & in_form(rule, w, n)
+    is_rule(rule) && in_form(rule, w, n)
 }
 
 // Tests 6, 7 and 8 of a window under a rule.
-pub fn judge(rule: u8, w: [u8; 16], n: usize) -> Verdict
+#[tactic(auto, unfolding(crate::specs::NextSymbol::judged, weak_orders::specs::Window::is_length))]
+pub fn judge(rule: u8, w: [u8; 16], n: usize) -> Result<(), Cause>
     ensures { result ≡ judged rule n (take n w) }
 {
     if !weak_orders::is_length(n) {
-        return Verdict::Refused(Cause::WindowLength);
+        return Err(Cause::WindowLength);
     }
     if !is_rule(rule) {
-        return Verdict::Refused(Cause::RuleNumber);
+        return Err(Cause::RuleNumber);
     }
     if !in_form(rule, w, n) {
-        return Verdict::Refused(Cause::NotWeakOrder);
+        return Err(Cause::NotWeakOrder);
     }
-    Verdict::Accepted
+    Ok(())
 }
 
-// A symbol for an answer, or why there is none.
-#[derive(Clone, Copy)]
-pub enum Next {
-    Symbol(u8),
-    Refused(Cause),
-}
-
-// The symbol that follows.
-pub fn next_symbol(rule: u8, w: [u8; 16], n: usize) -> Next
+// The symbol that follows, or why there is none.
+#[tactic(auto, using(crate::proofs::Steppable::in_heights, crate::proofs::RuleNumbers::is_rule2, crate::proofs::RuleNumbers::is_rule3), unfolding(crate::specs::NextSymbol::next_symbol, crate::specs::NextSymbol::answer_by))]
+pub fn next_symbol(rule: u8, w: [u8; 16], n: usize) -> Result<u8, Cause>
     ensures { result ≡ next_symbol rule n (take n w) }
 {
     if rule == 1 {
         return next_in_ranks(w, n);
     }
-    let verdict = judge(rule, w, n);
-    match verdict {
-        Verdict::Accepted => {
-            if rule == 2 {
-                return Next::Symbol(successor2(w, n));
-            }
-            Next::Symbol(successor3(w, n))
-        }
-        Verdict::Refused(cause) => Next::Refused(cause),
+    judge(rule, w, n)?;
+    let window = HeightWindow { w, n };
+    if rule == 2 {
+        return Ok(window.successor2());
     }
+    Ok(window.successor3())
 }
 
 // One step: the oldest symbol is dropped and the rule's appended. A window that cannot step stays as it is.
+#[tactic(auto, using(crate::proofs::Steppable::step_symbol, crate::proofs::Steppable::stays))]
 pub fn step(rule: u8, w: [u8; 16], n: usize) -> [u8; 16]
     ensures { result ≡ step_or_stay rule n w }
 {
-    let next = next_symbol(rule, w, n);
-    match next {
-        Next::Symbol(s) => weak_orders::shift(w, n, s),
-        Next::Refused(_) => w,
+    match next_symbol(rule, w, n) {
+        Ok(s) => weak_orders::shift(w, n, s),
+        Err(_) => w,
     }
 }
 
 // The rule that undoes a rule behind the same symbols. For a number that is no rule it is that number, and no rule either.
+#[tactic(auto, unfolding(crate::specs::StepBack::undoing))]
 fn undoing_rule(rule: u8) -> u8
     ensures { result ≡ undoing rule }
 {
@@ -110,32 +105,23 @@ fn undoing_rule(rule: u8) -> u8
 
 // The symbol that the step to this window dropped, or why there is none: what the undoing rule makes of the newest symbol, turned to the front.
 // A window turned back is in form just if it was before, so the test that the next symbol makes is the only one.
-pub fn previous_symbol(rule: u8, w: [u8; 16], n: usize) -> Next
+#[tactic(auto, using(crate::proofs::StepBack::previous_found))]
+pub fn previous_symbol(rule: u8, w: [u8; 16], n: usize) -> Result<u8, Cause>
     ensures { result ≡ previous_symbol rule n (take n w) }
 {
     let v = rotations::turned_back(w, n);
     next_symbol(undoing_rule(rule), v, n)
 }
 
-// The rotation that a rule compares with, or why there is none.
-#[derive(Clone, Copy)]
-pub enum RotationAnswer {
-    Found(Rotation),
-    Refused(Cause),
-}
-
-// Where the least rotation starts under rule 1, the greatest under rules 2 and 3, with the period of the window.
-pub fn rotation_under(rule: u8, w: [u8; 16], n: usize) -> RotationAnswer
+// The rotation that a rule compares with, or why there is none: where the least rotation starts under rule 1, the greatest under rules 2 and 3,
+// with the period of the window.
+#[tactic(auto, unfolding(crate::specs::RotationUnder::rotation_answer, crate::specs::RotationUnder::rotation_under, crate::specs::NextSymbol::answer_by))]
+pub fn rotation_under(rule: u8, w: [u8; 16], n: usize) -> Result<Rotation, Cause>
     ensures { result ≡ rotation_answer rule n (take n w) }
 {
-    let verdict = judge(rule, w, n);
-    match verdict {
-        Verdict::Accepted => {
-            if rule == 1 {
-                return RotationAnswer::Found(rotations::least_rotation(w, n));
-            }
-            RotationAnswer::Found(rotations::greatest_rotation(w, n))
-        }
-        Verdict::Refused(cause) => RotationAnswer::Refused(cause),
+    judge(rule, w, n)?;
+    if rule == 1 {
+        return Ok(rotations::least_rotation(w, n));
     }
+    Ok(rotations::greatest_rotation(w, n))
 }

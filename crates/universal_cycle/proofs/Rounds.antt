@@ -1,8 +1,7 @@
 -- The universal cycle theorem: from any weak order of n in a rule's form, a(n) steps meet each once and end at the start.
 -- Assumes nothing.
 use mathlib.Core.List.{List}
-use mathlib.Core.Path.{◌∙◌}
-use Prim.Native.Nat.{ℕ, suc, zero, ◌≤◌, ◌<◌}
+use Prim.Native.Nat.{ℕ, suc, zero, ◌<◌}
 use native.Mathlib.Omega.{arith}
 use lib.ListN.{length}
 use Rattle.rotations.proofs.Rotations.{turn}
@@ -12,7 +11,6 @@ use Rattle.ranking.proofs.Places.{heights-numbered, ranks-numbered}
 use Rattle.successors.specs.Rules.{rule1, rule2, rule3, rule_of, in_form, WeakOrder, step}
 use Rattle.successors.proofs.FirstSymbol.{change, turn_change}
 use Rattle.successors.proofs.RuleNumbers.{by_rule}
-use Rattle.successors.proofs.StepForm.{step-length, step_in_form}
 use Rattle.universal_cycle.specs.Round.{Tour, UniversalCycle}
 use Rattle.universal_cycle.proofs.Agreeing.{same_tour}
 use Rattle.universal_cycle.proofs.Joined.{Joined, one_cycle}
@@ -28,10 +26,6 @@ steps rule joined long L s p = same_tour
     (λ w q. turn_change rule w (long w q))
     p
     (one_cycle joined L s p)
-
--- A step of a rule keeps the weak orders in its form.
-pub step_kept : (r n : ℕ) → 1 ≤ n → (w : List ℕ) → WeakOrder n r w → WeakOrder n r (step (rule_of r) w)
-step_kept r n pos w (e, h) = (step-length (rule_of r) w (omega arith) ∙ e, step_in_form r w (omega arith) h)
 
 -- The theorem.
 pub universal_cycle : UniversalCycle

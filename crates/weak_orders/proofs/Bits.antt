@@ -1,14 +1,14 @@
 -- Sets of symbols as bits: bit v is set where v occurs, so the ones below bit k are the different symbols below k. Assumes nothing.
 use mathlib.Core.List.Memᴰ
-use mathlib.Core.List.{List, [], ◌∷◌}
+use mathlib.Core.List.{List, [], ◌∷◌, ◌++◌}
 use mathlib.Core.Logic.{◌≢◌}
 use mathlib.Core.Path.{◌≡◌, refl, sym, ap, ap₂, ◌∙◌}
 use Prim.Native.Nat.{ℕ, zero, suc, ◌+◌, ◌*◌, ◌/◌, ◌%◌, ◌^◌, min, max, ◌<◌, ◌≤◌}
 use native.Mathlib.Nat.{pow-suc, div-one, div-eq_of_lt, mul-div-mul_right, mod-lt, mod-one, one-mul, zero-div}
 use native.Mathlib.Omega.{arith}
 use native.Mathlib.Decide.{dec_lt, ℕ_discrete}
-use lib.Arith.{digits_mod}
-use lib.Bits.{bit_and, bit_or, and_step, or_step, or_shr, or_lt, or_add_and, and_le_l, and_le_r, and_zero_l, and_self, shifted_even}
+use lib.Arith.{bin_ind, digits_mod}
+use lib.Bits.{bit_and, bit_or, and_step, or_step, or_shr, or_lt, or_add_and, or_zero_l, or_zero_r, and_le_l, and_le_r, and_zero_l, and_self, shifted_even}
 use lib.Count.{ones, ones_cat, ones_step, ones-le}
 use lib.Dec.{eqb, eqb-zero-suc, eqb-suc-zero, eqb-suc-suc, lit<}
 use lib.Pow.{pow_pos, pow_mono, pow-lt, mod-pow-add}
@@ -38,6 +38,21 @@ odd_or a b = rw (or_step a b) (digits_mod (bit_or (a / 2) (b / 2)) (max_two (a %
 
 digit_or : (a b u : ℕ) → digit (bit_or a b) u ≡ max (digit a u) (digit b u)
 digit_or a b u = rw (or_shr a b u) (odd_or (a / 2 ^ u) (b / 2 ^ u))
+
+or_half : (a b : ℕ) → bit_or a b / 2 ≡ bit_or (a / 2) (b / 2)
+or_half a b = or_shr a b 1
+
+or_assoc : (a b c : ℕ) → bit_or (bit_or a b) c ≡ bit_or a (bit_or b c)
+or_assoc = bin_ind (λ (n : ℕ). (b c : ℕ) → bit_or (bit_or n b) c ≡ bit_or n (bit_or b c)) (λ b c. refl) (λ n ih b c.
+    let left = rw (or_half n b, odd_or n b) at (or_step (bit_or n b) c) in
+    let right = rw (or_half b c, odd_or b c) at (or_step n (bit_or b c)) in
+    omega (arith, left, right, ih (b / 2) (c / 2)))
+
+-- one more symbol at the end
+pub bits_back : (l : List ℕ) (x : ℕ) → bits_of (l ++ (x ∷ [])) ≡ bit_or (bits_of l) (bit_of x)
+unfolding bits_of
+bits_back [] x = or_zero_r (bit_of x) ∙ sym (or_zero_l (bit_of x))
+bits_back (y ∷ l) x = ap (bit_or (bit_of y)) (bits_back l x) ∙ sym (or_assoc (bit_of y) (bits_of l) (bit_of x))
 
 -- the digits of a symbol's bit, and of a set of symbols
 digit_bit_of : (x u : ℕ) → u < 31 → digit (bit_of x) u ≡ bit (eqb u x)

@@ -30,6 +30,9 @@ pub says_length : (n : ℕ) → Says (is_length n) ((1 ≤ n) × (n ≤ 16))
 unfolding is_length
 says_length n = says_and (says_le 1 n) (says_le n 16)
 
+pub sized : (n : ℕ) → true ≡ is_length n → (1 ≤ n) × (n ≤ 16)
+sized n t = (says_length n).to (sym t)
+
 -- ---- ranks by a table
 
 -- each symbol below n that the table has is one more than the number of places below it

@@ -10,8 +10,7 @@ use lib.ListN.{length, take, replicate}
 use lib.Seq.{length-take-le, take_all}
 use borrow.Author.Tests.{eq-eqb, ne_eqb}
 use Rattle.refusals.specs.declared.Cause.{Cause}
-use Rattle.refusals.specs.declared.Verdict.{Verdict}
-use Rattle.refusals.specs.declared.Verdict.TheVariants.{Accepted, Refused}
+use Rattle.std.specs.Prelude.{Result, Ok, Err}
 use Rattle.weak_orders.specs.Converted.{judged_by, judged_in}
 use Rattle.weak_orders.specs.Window.{is_length, loaded}
 use Rattle.weak_orders.proofs.FormTests.{says_length}
@@ -27,11 +26,11 @@ judged_array form n w l = elim (says? (says_length n)) [
   | yes (pos, le) ↦ rw ((says_length n).of (pos, le), eq-eqb (length (take n w)) n (length-take-le n w (omega arith)))
 ]
 
-pub refused : {c : Cause} → Refused c ≡ Accepted → ⊥
+pub refused : {c : Cause} {x : Unit {0}} → ◌≡◌ {A = Result (Unit {0}) Cause} (Err c) (Ok x) → ⊥
 refused e = let z : ◌≡◌ {A = ℕ} 0 1 = cc in omega arith
 
 -- what is accepted passed both tests
-pub accepted_by : (n : ℕ) (b : Bool) → judged_by n b ≡ Accepted → (is_length n ≡ true) × (b ≡ true)
+pub accepted_by : (n : ℕ) (b : Bool) → judged_by n b ≡ Ok tt → (is_length n ≡ true) × (b ≡ true)
 unfolding judged_by
 accepted_by n b e =
     by_test (is_length n) (λ t. by_test b (λ f. (t, f)) (λ f. absurd (refused (rw (t, f) at e)))) (λ t. absurd (refused (rw t at e)))
@@ -71,19 +70,19 @@ loaded-judged form n s low = elim (says? (says_length n)) [
 ]
 
 -- an accepted window is n long
-pub judged_whole : (form : List ℕ → Bool) (n : ℕ) (s : List ℕ) → judged_in form n s ≡ Accepted → (n ≤ 16) × (length s ≡ n)
+pub judged_whole : (form : List ℕ → Bool) (n : ℕ) (s : List ℕ) → judged_in form n s ≡ Ok tt → (n ≤ 16) × (length s ≡ n)
 unfolding judged_in
 judged_whole form n s e =
     let (long, formed) = accepted_by n (eqb (length s) n && form s) e in
     (((says_length n).to long).1, ((says_and (says_eq (length s) n) (says_itself (form s))).to formed).0)
 
 -- so an answer that a refusal gives whatever the window is gives the slice's own
-pub by_loaded : {A : Type 0} (judge : List ℕ → Verdict) (answer : Verdict → List ℕ → A) (n : ℕ) (s : List ℕ) →
-    judge (take n (loaded n s)) ≡ judge s → (judge s ≡ Accepted → (n ≤ 16) × (length s ≡ n)) →
-    ((c : Cause) (u v : List ℕ) → answer (Refused c) u ≡ answer (Refused c) v) →
+pub by_loaded : {A : Type 0} (judge : List ℕ → Result (Unit {0}) Cause) (answer : Result (Unit {0}) Cause → List ℕ → A) (n : ℕ) (s : List ℕ) →
+    judge (take n (loaded n s)) ≡ judge s → (judge s ≡ Ok tt → (n ≤ 16) × (length s ≡ n)) →
+    ((c : Cause) (u v : List ℕ) → answer (Err c) u ≡ answer (Err c) v) →
     answer (judge (take n (loaded n s))) (take n (loaded n s)) ≡ answer (judge s) s
 by_loaded judge answer n s same whole refusal = ap (λ v. answer v (take n (loaded n s))) same ∙ go (judge s) refl
   where
-    go : (v : Verdict) → judge s ≡ v → answer v (take n (loaded n s)) ≡ answer v s
-    go Accepted e = let (le, l) = whole e in ap (answer Accepted) (loaded_whole n s le l)
-    go (Refused c) e = refusal c _ _
+    go : (v : Result (Unit {0}) Cause) → judge s ≡ v → answer v (take n (loaded n s)) ≡ answer v s
+    go (Ok tt) e = let (le, l) = whole e in ap (answer (Ok tt)) (loaded_whole n s le l)
+    go (Err c) e = refusal c _ _

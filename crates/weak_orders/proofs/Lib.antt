@@ -12,3 +12,4 @@ pub mod Padded
 pub mod FormTests
 pub mod Judged
 pub mod Claims
+pub mod Chains

@@ -5,6 +5,7 @@ use Prim.Native.Nat.{ℕ, suc, ◌+◌, ◌-◌, ◌<◌, ◌≤◌}
 use native.Mathlib.Omega.{arith}
 use native.Mathlib.Numerals.{add-one}
 use lib.ListN.{length, take, drop, get_or, set, replicate, length-append, length-replicate, length-drop, length-map, get_or-append}
+use Rattle.std.proofs.lemmas.List.{drop-replicate}
 use lib.Seq.{length-take-le, set_at, append_snoc, take-suc, take_at, take_all, drop_at, get_or-drop, get_or-take, get_or_at}
 use Rattle.weak_orders.specs.Window.{padded, shifted}
 use Rattle.weak_orders.proofs.Lists.{get_or_map}
@@ -26,8 +27,13 @@ pub drop-padded : (w : List ℕ) (n : ℕ) → length w ≡ n → drop n (padded
 unfolding padded
 drop-padded w n e = drop_at w (replicate (16 - length w) 0) n e ∙ ap (λ (k : ℕ). replicate (16 - k) 0) e
 
+-- a list copied into the front of zeros
+pub padded_over : (p : List ℕ) (k : ℕ) → length p ≡ k → p ++ drop k (replicate 16 0) ≡ padded p
+unfolding padded
+padded_over p k e = ap (λ (l : List ℕ). p ++ l) (drop-replicate k 16 0 ∙ ap (λ (m : ℕ). replicate (16 - m) 0) (sym e))
+
 -- one symbol more
-padded_snoc : (p : List ℕ) (i x : ℕ) → length p ≡ i → i < 16 → set (padded p) i x ≡ padded (p ++ (x ∷ []))
+pub padded_snoc : (p : List ℕ) (i x : ℕ) → length p ≡ i → i < 16 → set (padded p) i x ≡ padded (p ++ (x ∷ []))
 unfolding padded
 padded_snoc p i x e lt =
     let q : 16 - length p ≡ suc (16 - length (p ++ (x ∷ []))) = omega (arith, length-append p (x ∷ [])) in

@@ -1,76 +1,63 @@
 -- The direct calls on slices. Assumes nothing.
-use mathlib.Core.Bool.{false, cond}
-use mathlib.Core.List.{List, ◌++◌}
-use mathlib.Core.Path.{◌≡◌, refl, sym, ◌∙◌}
+use mathlib.Core.Bool.{true, false, cond}
+use mathlib.Core.List.{List}
+use mathlib.Core.Path.{◌≡◌, refl, sym, ap}
 use Prim.Native.Nat.{ℕ, ◌≤◌, ◌<◌}
 use native.Mathlib.Omega.{arith}
-use native.Mathlib.Decide.{dec_le}
-use lib.Dec.{ltb}
-use lib.ListN.{length, take, drop, replicate}
-use lib.Seq.{take-length, length-take-le}
-use borrow.Author.Tests.{ne_eqb, lt-ltb, le-ltb}
+use lib.Dec.{ltb, eqb}
+use lib.ListN.{length, take}
+use borrow.Author.Tests.{lt-ltb, le-ltb}
 use Rattle.refusals.specs.declared.Cause.{Cause}
-use Rattle.refusals.specs.declared.Cause.TheVariants.{ShortBuffer}
-use Rattle.refusals.specs.declared.Verdict.{Verdict}
-use Rattle.refusals.specs.declared.Verdict.TheVariants.{Accepted, Refused}
+use Rattle.refusals.specs.declared.Cause.TheVariants.{ShortBuffer, FrameLength, FrameHeader, FrameKind, ReservedByte}
+use Rattle.refusals.specs.declared.Cause.TheVariants.{WindowLength, RuleNumber, NotWeakOrder, LevelSetting, NotBegun}
+use Rattle.refusals.specs.declared.Cause.TheVariants.{StepNumber, RoundFinished, NoSuchPlace, SheetMalformed, NoFilling, LevelFile}
+use Rattle.refusals.specs.declared.Cause.TheVariants.{OtherVersion, OtherRound, RoundInForce}
+use Rattle.std.specs.Prelude.{Result, Ok, Err, IfOk, MatchResult}
+use Rattle.std.specs.Result.{IsOkAnd}
 use Rattle.weak_orders.specs.Converted.{judged_by, judged_in, answered, rank_to_height, height_to_rank}
 use Rattle.weak_orders.specs.Window.{is_length, is_rank, is_height, heights, ranks, loaded}
 use Rattle.weak_orders.proofs.FormTests.{says_length, rank_low, height_low}
 use Rattle.weak_orders.proofs.Judged.{refused, loaded_whole, loaded-judged, judged_whole, by_loaded}
 use Rattle.weak_orders.proofs.Tests.{by_test, says?, says_no}
-use Rattle.ranking.specs.Answers.{placed, number_by, judged_place, located}
+use Rattle.ranking.specs.Answers.{counted, placed, number_by, judged_place, located}
 use Rattle.ranking.specs.Dictionary.{place, window_at}
-use Rattle.ranking.proofs.Answered.{place-length}
+use Rattle.ranking.proofs.Answered.{place-uncounted}
 use Rattle.filling.specs.Answers.{judged_pattern, fill_answer}
 use Rattle.filling.specs.Earliest.{earliest}
 use Rattle.filling.specs.Pattern.{is_pattern}
 use Rattle.filling.proofs.Verdicts.{accepted_pattern}
-use Rattle.successors.specs.NextSymbol.{judged, next_symbol, symbol_by}
-use Rattle.successors.specs.RotationUnder.{rotation_under, rotation_by, rotation_answer}
+use Rattle.successors.specs.NextSymbol.{judged, next_symbol, answer_by}
+use Rattle.successors.specs.RotationUnder.{rotation_under, rotation_answer}
+use Rattle.successors.proofs.RotationsUnder.{found_bounds}
+use Rattle.rotations.specs.declared.Rotation.{Rotation}
 use Rattle.successors.specs.Rules.{rule_of}
 use Rattle.successors.specs.StepBack.{previous_of, previous_symbol}
 use Rattle.successors.proofs.Steppable.{slice_answer}
-use Rattle.wko.specs.Calls.{told_first, before_room, with_room}
+use Rattle.frames.specs.Fields.{bytes64}
+use Rattle.wko.specs.Calls.{told_first, before_room, with_room, mapped, window_given, number_given}
 
--- what a copy of the first n leaves
-pub stored : (w out after : List ℕ) (n : ℕ) → n ≤ length w →
-    after ≡ take (length (take n w)) (take n w) ++ drop (length (take n w)) out → after ≡ take n w ++ drop n out
-stored w out after n le e = e ∙ rw (take-length (take n w), length-take-le n w le)
+-- ---- an answer with a buffer
 
--- ---- the verdict with a buffer
-
-module _ (need room : ℕ) where
-  pub room_enough : need ≤ room → (v : Verdict) → with_room need room v ≡ v
+module _ {A : Type 0} (need room : ℕ) where
+  pub room_enough : need ≤ room → (x : Result A Cause) → with_room need room x ≡ x
   unfolding with_room
-  room_enough h v = rw (le-ltb room need h)
+  room_enough h x = rw (le-ltb room need h)
 
-  pub room_short : room < need → with_room need room Accepted ≡ Refused ShortBuffer
-  unfolding with_room before_room
-  room_short h = rw (lt-ltb room need h)
+  pub room_short : room < need → (x : Result A Cause) → before_room x ≡ false → with_room need room x ≡ Err ShortBuffer
+  unfolding with_room
+  room_short h x late = rw (lt-ltb room need h, late)
 
-  pub room_cause : room < need → (c : Cause) → with_room need room (Refused c) ≡ cond (told_first c) (Refused c) (Refused ShortBuffer)
-  unfolding with_room before_room
-  room_cause h c = by_test (told_first c) (λ t. rw (lt-ltb room need h, t)) (λ t. rw (lt-ltb room need h, t))
-
-  -- accepted only where it was accepted before, and there is room
-  pub room_accepted : (v : Verdict) → with_room need room v ≡ Accepted → (v ≡ Accepted) × (need ≤ room)
-  room_accepted v e = elim (dec_le need room) [
-    | yes h ↦ (rw (room_enough h v) at e, h)
-    | no h ↦ absurd (go (omega arith) v e)
-  ]
-    where
-      go : room < need → (v : Verdict) → with_room need room v ≡ Accepted → ⊥
-      go h Accepted e = refused (rw (room_short h) at e)
-      go h (Refused c) e = by_test (told_first c)
-          (λ t. refused (rw (room_cause h c, t) at e))
-          (λ t. refused (rw (room_cause h c, t) at e))
+  pub room_told : (x : Result A Cause) → before_room x ≡ true → with_room need room x ≡ x
+  unfolding with_room
+  room_told x told = by_test (ltb room need) (λ t. rw (t, told)) (λ f. rw f)
 
 -- ---- the answers on a slice
 
-answered_verdict : (v : Verdict) (w : List ℕ) → (answered v w).verdict ≡ v
+-- what is answered is accepted just where the window is
+answered_ok : (v : Result (Unit {0}) Cause) (w : List ℕ) (P : Type 0) → (v ≡ Ok tt → P) → IfOk (answered v w) (λ _. P)
 unfolding answered
-answered_verdict Accepted w = refl
-answered_verdict (Refused c) w = refl
+answered_ok (Ok tt) w P h = h refl
+answered_ok (Err c) w P h = tt
 
 pub rank_slice : (n : ℕ) (s : List ℕ) → rank_to_height n (take n (loaded n s)) ≡ rank_to_height n s
 unfolding rank_to_height answered
@@ -96,17 +83,23 @@ fill_slice n s l = elim (says? (says_length n)) [
   | no h ↦ rw (says_no (says_length n) h)
 ]
 
-pub fill_other : (n : ℕ) (s : List ℕ) → ¬ (length s ≡ n) → record { verdict = judged_by n false; window = replicate 16 0 } ≡ fill_answer n s
+pub fill_early : (n : ℕ) (s : List ℕ) (c : Cause) → judged_by n (eqb (length s) n) ≡ Err c → Err c ≡ fill_answer n s
 unfolding fill_answer judged_pattern is_pattern judged_by answered
-fill_other n s ne = by_test (is_length n) (λ a. rw (a, ne_eqb (length s) n ne)) (λ a. rw a)
+fill_early n s c e =
+    let told : (v : Result (Unit {0}) Cause) → v ≡ Err c → answered (Err c) s ≡ answered v s = λ v q. ap (λ u. answered u s) (sym q) in
+    by_test (is_length n)
+    (λ a. by_test (eqb (length s) n)
+    (λ q. absurd (refused (sym (rw (a, q) at e))))
+    (λ q. rw (a, q) (told _ (rw (a, q) at e))))
+    (λ a. rw a (told _ (rw a at e)))
 
 -- a rule that does not fit a byte is no rule, and neither is 0
 symbol_slice : (symbol : ℕ → List ℕ → ℕ) (n rule : ℕ) (s : List ℕ) →
     let r = cond (ltb rule 256) rule 0 in
     let u = take n (loaded n s) in
-    symbol_by (judged r n u) (symbol r u) ≡ symbol_by (judged rule n s) (symbol rule s)
-unfolding symbol_by
-symbol_slice symbol n rule s = slice_answer (λ r v u. symbol_by v (symbol r u)) (λ c r q u v. refl) rule n s
+    answer_by (judged r n u) (symbol r u) ≡ answer_by (judged rule n s) (symbol rule s)
+unfolding answer_by
+symbol_slice symbol n rule s = slice_answer (λ r v u. answer_by v (symbol r u)) (λ c r q u v. refl) rule n s
 
 pub next_slice : (n rule : ℕ) (s : List ℕ) → next_symbol (cond (ltb rule 256) rule 0) n (take n (loaded n s)) ≡ next_symbol rule n s
 unfolding next_symbol
@@ -117,28 +110,73 @@ unfolding previous_symbol
 previous_slice = symbol_slice previous_of
 
 pub rotation_slice : (n rule : ℕ) (s : List ℕ) → rotation_answer (cond (ltb rule 256) rule 0) n (take n (loaded n s)) ≡ rotation_answer rule n s
-unfolding rotation_answer rotation_by
-rotation_slice n rule s = slice_answer (λ r v u. rotation_by v (rotation_under r u)) (λ c r q u v. refl) rule n s
+unfolding rotation_answer answer_by
+rotation_slice n rule s = slice_answer (λ r v u. answer_by v (rotation_under r u)) (λ c r q u v. refl) rule n s
 
 -- an accepted window has at most 16 symbols
-pub rank_most : (n : ℕ) (u : List ℕ) → (rank_to_height n u).verdict ≡ Accepted → n ≤ 16
+pub rank_most : (n : ℕ) (u : List ℕ) → IfOk (rank_to_height n u) (λ _. n ≤ 16)
 unfolding rank_to_height
-rank_most n u e = (judged_whole is_rank n u (sym (answered_verdict _ (heights u)) ∙ e)).0
+rank_most n u = answered_ok (judged_in is_rank n u) (heights u) (n ≤ 16) (λ e. (judged_whole is_rank n u e).0)
 
-pub height_most : (n : ℕ) (u : List ℕ) → (height_to_rank n u).verdict ≡ Accepted → n ≤ 16
+pub height_most : (n : ℕ) (u : List ℕ) → IfOk (height_to_rank n u) (λ _. n ≤ 16)
 unfolding height_to_rank
-height_most n u e = (judged_whole is_height n u (sym (answered_verdict _ (ranks u)) ∙ e)).0
+height_most n u = answered_ok (judged_in is_height n u) (ranks u) (n ≤ 16) (λ e. (judged_whole is_height n u e).0)
 
-pub located_most : (n k : ℕ) → (located n k).verdict ≡ Accepted → n ≤ 16
+counted_length : (n : ℕ) → is_length n ≡ false → counted n ≡ Err WindowLength
+unfolding counted
+counted_length n f = rw f
+
+pub located_most : (n k : ℕ) → IfOk (located n k) (λ _. n ≤ 16)
 unfolding located
-located_most n k e = place_long (sym (answered_verdict (judged_place n k) (window_at n k)) ∙ e)
-  where
-    place_long : judged_place n k ≡ Accepted → n ≤ 16
-    place_long e = elim (says? (says_length n)) [
-      | yes l ↦ l.1
-      | no l ↦ absurd (refused (rw (place-length n k (says_no (says_length n) l)) at e))
-    ]
+located_most n k = answered_ok (judged_place n k) (window_at n k) (n ≤ 16) (λ e. elim (says? (says_length n)) [
+  | yes l ↦ l.1
+  | no l ↦ absurd (refused (rw (place-uncounted n k WindowLength (counted_length n (says_no (says_length n) l))) at e))
+])
 
-pub fill_most : (n : ℕ) (p : List ℕ) → (fill_answer n p).verdict ≡ Accepted → n ≤ 16
+pub fill_most : (n : ℕ) (p : List ℕ) → IfOk (fill_answer n p) (λ _. n ≤ 16)
 unfolding fill_answer
-fill_most n p e = (accepted_pattern n p (sym (answered_verdict _ (earliest n p)) ∙ e)).0
+fill_most n p = answered_ok (judged_pattern n p) (earliest n p) (n ≤ 16) (λ e. (accepted_pattern n p e).0)
+
+-- neither number of a rotation is larger than 16
+pub rotation_small : (rule n : ℕ) (w : List ℕ) → IfOk (rotation_answer rule n w) (λ r. (r.start ≤ 16) × (r.period ≤ 16))
+rotation_small rule n w = go (rotation_answer rule n w) refl
+  where
+    go : (x : Result Rotation Cause) → rotation_answer rule n w ≡ x → IfOk x (λ r. (r.start ≤ 16) × (r.period ≤ 16))
+    go (Ok r) e = found_bounds rule n w r e
+    go (Err c) e = tt
+
+-- what `map` gives
+pub mapped_from : {A B : Type 0} (f : A → B) (x : Result A Cause) (r : Result B Cause) →
+    MatchResult x (λ k. IsOkAnd r (λ y. y ≡ f k)) (λ e. r ≡ Err e) → r ≡ mapped f x
+mapped_from f (Ok k) (Ok y) h = ap Ok h
+mapped_from f (Ok k) (Err d) h = absurd h
+mapped_from f (Err e) r h = h
+
+-- all eight bytes of a number
+pub whole_bytes : (x : Result ℕ Cause) (out : List ℕ) → window_given 8 (mapped bytes64 x) out ≡ number_given x out
+unfolding window_given number_given
+whole_bytes (Ok k) out = refl
+whole_bytes (Err c) out = refl
+
+-- the causes that are told before a short buffer
+pub late : (c : Cause) → ¬ (c ≡ WindowLength) → ¬ (c ≡ RuleNumber) → false ≡ told_first c
+unfolding told_first
+late ShortBuffer a b = refl
+late FrameLength a b = refl
+late FrameHeader a b = refl
+late FrameKind a b = refl
+late ReservedByte a b = refl
+late WindowLength a b = absurd (a refl)
+late RuleNumber a b = absurd (b refl)
+late NotWeakOrder a b = refl
+late LevelSetting a b = refl
+late NotBegun a b = refl
+late StepNumber a b = refl
+late RoundFinished a b = refl
+late NoSuchPlace a b = refl
+late SheetMalformed a b = refl
+late NoFilling a b = refl
+late LevelFile a b = refl
+late OtherVersion a b = refl
+late OtherRound a b = refl
+late RoundInForce a b = refl

@@ -5,7 +5,7 @@ ghost use Rattle.wko.specs.SessionCalls.{exchange_call, load_call};
 
 use stepper::session::Session;
 
-// The session after a frame, and 0 or the number of the refusal.
+// The session after a frame, and 0 or the number of the refusal, as C declares it.
 #[repr(C)]
 #[derive(Clone, Copy)]
 pub struct Exchanged {
@@ -13,7 +13,7 @@ pub struct Exchanged {
     pub number: u32,
 }
 
-// The session after a level file, and 0 or 16.
+// The session after a level file, and 0 or 16. A struct of its own, as the C interface declares it.
 #[repr(C)]
 #[derive(Clone, Copy)]
 pub struct Loaded {
@@ -34,12 +34,10 @@ pub extern "C" fn wko_fresh() -> Session
 pub extern "C" fn wko_exchange(session: Session, frame: &[u8], answer: &mut [u8]) -> Exchanged
     ensures { (result, answer.new) ≡ exchange_call session frame.now answer.old }
 {
-    let x = handler::exchange(session, frame, answer);
-    let reply = x.reply;
-    let next = x.session;
+    let exchanged = handler::exchange(session, frame, answer);
     Exchanged {
-        session: next,
-        number: frames::answer::number(reply) as u32,
+        session: exchanged.session,
+        number: u32::from(frames::answer::number(exchanged.reply)),
     }
 }
 
@@ -48,11 +46,9 @@ pub extern "C" fn wko_exchange(session: Session, frame: &[u8], answer: &mut [u8]
 pub extern "C" fn wko_load_levels(session: Session, file: &[u8]) -> Loaded
     ensures { result ≡ load_call session file.now }
 {
-    let x = handler::load_levels(session, file);
-    let reply = x.reply;
-    let holding = x.session;
+    let loaded = handler::load_levels(session, file);
     Loaded {
-        session: holding,
-        number: frames::answer::number(reply) as u32,
+        session: loaded.session,
+        number: u32::from(frames::answer::number(loaded.reply)),
     }
 }

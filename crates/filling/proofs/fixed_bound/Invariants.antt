@@ -5,7 +5,4 @@ use lib.ListN.{get_or}
 use Rattle.filling.proofs.fixed_bound.Given as goal
 
 abbrev pub invariant-loop-v : goal.invariant-loop-v
-invariant-loop-v l = (l.v ≤ l.n) × ((u : ℕ) → l.v ≤ u → u < l.n → get_or l.t u 0 ≡ 0)
-
-abbrev pub decreases-loop-v : goal.decreases-loop-v
-decreases-loop-v l = l.v
+invariant-loop-v l = (u : ℕ) → l.v ≤ u → u < l.n → get_or l.t u 0 ≡ 0

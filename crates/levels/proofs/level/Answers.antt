@@ -31,7 +31,7 @@ rounded-requires c = let a = c.args in
     rw (exact c)
     (lowered_size a.setting _ (omega (arith, top.sfits)) (omega arith) (spacings_small a.rule a.symbol (omega arith)))
 
-pub returns : goal.returns
+pub returns-else-on_table : goal.returns-else-on_table
 unfolding level_of level_at
-returns c = let off = sym c.on_table.ensures ∙ c.if-on_table.false in
-    rw (to_z-of_z (sfits_of {w = w32} c.rounded.type_inv), off, c.rounded.ensures, exact (goal.at.returns c).After-lowered)
+returns-else-on_table c = let off = sym c.on_table.ensures ∙ c.if-on_table.false in
+    rw (to_z-of_z (sfits_of {w = w32} c.rounded.type_inv), off, c.rounded.ensures, exact (goal.at.returns-else-on_table c).After-lowered)

@@ -19,7 +19,7 @@ use Rattle.printing.proofs.Widths.{Held, last_line_width}
 use Rattle.printing.proofs.next_page.Goals.{After-onward-now, Else-not-can_step, In-loop-now}
 use Rattle.printing.proofs.next_page.Goals as goal
 
-stepped : (c : Else-not-can_step) → let p = c.args.p in steppable p.rule p.n p.window ≡ true
+stepped : (c : Else-not-can_step) → let p = c.args.p in steppable p.round.rule p.round.n p.round.window ≡ true
 stepped c = sym c.can_step.ensures ∙ c.if-not-can_step.false
 
 -- what the loop's test says
@@ -29,14 +29,14 @@ test c = let l = c.loop-now in (says_and (says_lt l.now.done l.now.last) (says_l
 -- what the next state can hold, and so its line has room
 held : (c : After-onward-now) → Held c.onward-now.result
 held c =
-    let t : SFits w16 c.onward-now.result.setting.top = search rules in
+    let t : SFits w16 c.onward-now.result.round.setting.top = search rules in
     record {
       done = search rules;
       top = omega (arith, t.sfits);
       spacing = search rules;
-      entries = λ d. let h : SFits w16 (get_or c.onward-now.result.setting.table d (pos 0)) = search (rules, entry_fits) in omega (arith, h.sfits);
+      entries = λ d. let h : SFits w16 (get_or c.onward-now.result.round.setting.table d (pos 0)) = search (rules, entry_fits) in omega (arith, h.sfits);
       long = search rules;
-      symbols = λ i. let h : Fits w8 (get_or c.onward-now.result.window i 0) = search rules in h.fits;
+      symbols = λ i. let h : Fits w8 (get_or c.onward-now.result.round.window i 0) = search rules in h.fits;
     }
 
 pub returns-then-not-can_step : goal.returns-then-not-can_step
@@ -47,14 +47,14 @@ returns-then-not-can_step c =
 
 pub loop-now-init : goal.loop-now-init
 loop-now-init c = let s = c in
-    let long : length s.args.p.window ≡ 16 = search rules in
-    filling_none s.args.p s.args.out.now ((says_steppable s.args.p.rule s.args.p.n s.args.p.window).to (stepped c)) long
+    let long : length s.args.p.round.window ≡ 16 = search rules in
+    filling_none s.args.p s.args.out.now ((says_steppable s.args.p.round.rule s.args.p.round.n s.args.p.round.window).to (stepped c)) long
 
 pub overflow_sub-out : goal.overflow_sub-out
 overflow_sub-out c = omega (arith, filled c.loop-now.invariant)
 
 pub onward-now-requires : goal.onward-now-requires
-onward-now-requires c = let l = c.loop-now in ((says_steppable l.now.rule l.now.n l.now.window).of l.invariant.steps, (test c).0)
+onward-now-requires c = let l = c.loop-now in ((says_steppable l.now.round.rule l.now.round.n l.now.round.window).of l.invariant.steps, (test c).0)
 
 pub put_line-len-requires : goal.put_line-len-requires
 put_line-len-requires c = let o = (goal.at.put_line-len-requires c).After-onward-now in

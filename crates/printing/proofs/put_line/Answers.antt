@@ -17,10 +17,10 @@ use Rattle.printing.proofs.put_line.Goals as goal
 
 -- the line that `put_row` is asked for
 line : (c : After-level-level) → let p = c.args.p in
-    line_text p.done (get_or p.window (p.n - 1) 0) (to_z w32 (of_z w32 c.level-level.result)) (take p.n p.window) ≡ last_line p
+    line_text p.done (get_or p.round.window (p.round.n - 1) 0) (to_z w32 (of_z w32 c.level-level.result)) (take p.round.n p.round.window) ≡ last_line p
 line c =
     let s = c in
-    let long : length s.args.p.window ≡ 16 = search rules in
+    let long : length s.args.p.round.window ≡ 16 = search rules in
     last_line_lem s.args.p s.requires.0 long _ _ refl (to_z-of_z {w = w32} (sfits_of {w = w32} c.level-level.type_inv) ∙ c.level-level.ensures)
 
 pub overflow_sub-symbol : goal.overflow_sub-symbol
@@ -31,7 +31,7 @@ bounds-w-n c = omega (arith, (says_length _).to c.requires.0)
 
 pub put_row-requires : goal.put_row-requires
 put_row-requires c = let s = c in
-    let (pos, few) = (says_length s.args.p.n).to s.requires.0 in
+    let (pos, few) = (says_length s.args.p.round.n).to s.requires.0 in
     (pos, few, omega (arith, s.requires.1, ap length (line (goal.at.put_row-requires c).After-level-level)))
 
 pub returns : goal.returns

@@ -20,9 +20,9 @@ refused c =
     let d = c.put_front-at in
     wrote_front refused_line c.args.out.now d.new.out d.result d.ensures.at d.ensures.written
 
-room : (c : After-put_front-at) → 0 + length (refused_line ++ (decimal c.number-number.result ++ (10 ∷ []))) ≤ length c.args.out.now
+room : (c : After-put_front-at) → 0 + length (refused_line ++ (decimal c.from-number.result ++ (10 ∷ []))) ≤ length c.args.out.now
 room c =
-    let v = c.number-number.result in
+    let v = c.from-number.result in
     let small : v < 2 ^ 8 = search rules in
     omega (
       arith,
@@ -42,27 +42,27 @@ returns-then-out-lt-LONGEST c = record {
 pub put_decimal_field-requires : goal.put_decimal_field-requires
 put_decimal_field-requires c =
     let k = (goal.at.put_decimal_field-requires c).After-put_front-at in
-    room_rest (refused k) (decimal c.number-number.result ++ (10 ∷ [])) (room k)
+    rw c.from.ensures (room_rest (refused k) (decimal c.from-number.result ++ (10 ∷ [])) (room k))
 
-pub returns-in-Accepted : goal.returns-in-Accepted
+pub returns-in-Ok : goal.returns-in-Ok
 unfolding opening opening_text
-returns-in-Accepted c =
+returns-in-Ok c =
     let d = c.put_front in
     let w = wrote_front heading c.args.out.now d.new.out d.result d.ensures.at d.ensures.written in
     let long = c.if-out-lt-LONGEST.false in
     record {
-      out_after = rw (c.in-Accepted.is, le-ltb _ 128 long) (wrote_over w);
+      out_after = rw (c.in-Ok.is, le-ltb _ 128 long) (wrote_over w);
       within = counts _ d.result (omega (arith, w.end, wrote_length w (omega arith)));
     }
 
-pub returns-in-Refused : goal.returns-in-Refused
+pub returns-in-Err : goal.returns-in-Err
 unfolding opening opening_text
-returns-in-Refused c =
-    let k = (goal.at.returns-in-Refused c).After-put_front-at in
-    let v = c.number-number.result in
-    let both = wrote_then (refused k) c.put_decimal_field.ensures (room_front 0 _ refused_line (decimal v ++ (10 ∷ [])) (room k)) in
+returns-in-Err c =
+    let k = (goal.at.returns-in-Err c).After-put_front-at in
+    let v = c.from-number.result in
+    let both = wrote_then (refused k) (rw c.from.ensures at c.put_decimal_field.ensures) (room_front 0 _ refused_line (decimal v ++ (10 ∷ [])) (room k)) in
     let short = le-ltb _ 128 c.if-out-lt-LONGEST.false in
     record {
-      out_after = rw (c.in-Refused.is, short, ← c.number-number.ensures) (wrote_over both);
+      out_after = rw (c.in-Err.is, short, ← c.from-number.ensures) (wrote_over both);
       within = counts _ c.put_decimal_field.result (omega (arith, both.end, room k, wrote_length both (room k)));
     }

@@ -35,13 +35,17 @@ room₂ c =
     let a = c.args in
     room_rest c.put_decimal_field-second.ensures (number a.symbol ++ (level a.level ++ last a.n a.w)) c.requires.2
 
+second : (c : After-put_decimal_field-third) → let d = c.put_decimal_field-second in let e = c.put_decimal_field-third in
+    Wrote d.new.out d.result (number c.args.symbol) e.result e.new.out
+second c = rw c.from.ensures at c.put_decimal_field-third.ensures
+
 room₃ : (c : After-put_decimal_field-third) → let a = c.args in let d = c.put_decimal_field-third in
     d.result + length (level a.level ++ last a.n a.w) ≤ length d.new.out
 unfolding line_text
 room₃ c =
     let a = c.args in
     let rest = level a.level ++ last a.n a.w in
-    room_rest c.put_decimal_field-third.ensures rest (room_rest c.put_decimal_field-second.ensures (number a.symbol ++ rest) c.requires.2)
+    room_rest (second c) rest (room_rest c.put_decimal_field-second.ensures (number a.symbol ++ rest) c.requires.2)
 
 third : (c : After-put_signed_field-fourth) → let d = c.put_decimal_field-third in let e = c.put_signed_field-fourth in
     Wrote d.new.out d.result (level c.args.level) e.result e.new.out
@@ -58,7 +62,7 @@ put_decimal_field-second-requires c =
 pub put_decimal_field-third-requires : goal.put_decimal_field-third-requires
 put_decimal_field-third-requires c =
     let a = c.args in
-    room_front _ _ (number a.symbol) (level a.level ++ last a.n a.w) (room₂ (goal.at.put_decimal_field-third-requires c).After-put_decimal_field-second)
+    rw c.from.ensures (room_front _ _ (number a.symbol) (level a.level ++ last a.n a.w) (room₂ (goal.at.put_decimal_field-third-requires c).After-put_decimal_field-second))
 
 pub put_signed_field-fourth-requires : goal.put_signed_field-fourth-requires
 put_signed_field-fourth-requires c =
@@ -81,6 +85,6 @@ returns c =
     let rest = level a.level ++ last a.n a.w in
     let w₃ = wrote_then (third here.After-put_signed_field-fourth) c.put_joined_field.ensures
     (room_front _ _ (level a.level) (last a.n a.w) (room₃ here.After-put_decimal_field-third)) in
-    let w₂ = wrote_then c.put_decimal_field-third.ensures w₃
+    let w₂ = wrote_then (second here.After-put_decimal_field-third) w₃
     (room_front _ _ (number a.symbol) rest (room₂ here.After-put_decimal_field-second)) in
     wrote_then c.put_decimal_field-second.ensures w₂ (room_front _ _ (number a.k) (number a.symbol ++ rest) (room₁ here.Start))

@@ -1,9 +1,9 @@
 -- `count`: refused, or the list's entry. Assumes nothing.
 use mathlib.Core.Bool.{true}
 use mathlib.Core.Path.{◌≡◌, sym, ap, ◌∙◌}
+use Rattle.std.specs.Prelude.{Ok}
 use Rattle.weak_orders.specs.Window.{is_length}
 use Rattle.ranking.specs.Answers.{counted}
-use Rattle.ranking.specs.declared.NumberAnswer.TheVariants.{Number}
 use Rattle.ranking.proofs.Answered.{count_of}
 use Rattle.ranking.proofs.count.Goals as goal
 
@@ -17,4 +17,4 @@ unfolding counted
 returns c = let r = c in
     let n = r.args.n in
     let long : is_length n ≡ true = sym r.is_length.ensures ∙ r.if-not-is_length.false in
-    rw long (ap Number (count_of n long _ c.weak_order_count.ensures))
+    rw long (ap Ok (count_of n long _ c.weak_order_count.ensures))

@@ -1,31 +1,33 @@
 -- `place`: refused as the window is judged, or the place of a height window. Assumes nothing.
-use mathlib.Core.Path.{◌≡◌, sym, ap, ◌∙◌}
+use mathlib.Core.Path.{◌≡◌, sym, ◌∙◌}
 use lib.ListN.{length, take}
 use borrow.Author.Rules.{rules}
+use Rattle.std.proofs.lemmas.Result.{err_from_is_err_and}
 use Rattle.weak_orders.specs.Converted.{is_height_window, judged_in}
 use Rattle.weak_orders.specs.Window.{is_height}
 use Rattle.weak_orders.proofs.Judged.{judged_array, accepted_by}
 use Rattle.ranking.specs.Answers.{placed, number_by}
-use Rattle.ranking.specs.declared.NumberAnswer.TheVariants.{Number}
-use Rattle.ranking.proofs.place.Goals.{After-judge-verdict}
+use Rattle.ranking.proofs.place.Goals.{After-judge}
 use Rattle.ranking.proofs.place.Goals as goal
 
 -- the verdict on the window
-told : (c : After-judge-verdict) → let a = c.args in c.judge-verdict.result ≡ judged_in is_height a.n (take a.n a.w)
+told : (c : After-judge) → let a = c.args in c.judge.result ≡ judged_in is_height a.n (take a.n a.w)
 unfolding is_height_window
 told c =
     let a = c.args in
     let l : length a.w ≡ 16 = search rules in
-    c.judge-verdict.ensures ∙ rw c.is_height.ensures (judged_array is_height a.n a.w l)
+    c.judge.ensures ∙ rw c.is_height.ensures (judged_array is_height a.n a.w l)
+
+pub returns-in_err-judge : goal.returns-in_err-judge
+unfolding placed number_by
+returns-in_err-judge c =
+    let p = err_from_is_err_and c.from_residual.result c.from_residual.ensures.1 in
+    rw (p.1, p.2, sym (told (goal.at.returns-in_err-judge c).After-judge) ∙ c.in_err-judge.was)
 
 pub place_of-requires : goal.place_of-requires
-place_of-requires c = let r = c in
-    sym r.is_height.ensures ∙ (accepted_by _ _ (sym r.judge-verdict.ensures ∙ c.in-Accepted.is)).1
+place_of-requires c =
+    sym c.is_height.ensures ∙ (accepted_by _ _ (sym c.judge.ensures ∙ c.in_ok-judge.was)).1
 
-pub returns-in-Accepted : goal.returns-in-Accepted
+pub returns : goal.returns
 unfolding placed number_by
-returns-in-Accepted c = rw (sym (told (goal.at.returns-in-Accepted c).After-judge-verdict) ∙ c.in-Accepted.is) (ap Number c.place_of.ensures)
-
-pub returns-in-Refused : goal.returns-in-Refused
-unfolding placed number_by
-returns-in-Refused c = rw (sym (told (goal.at.returns-in-Refused c).After-judge-verdict) ∙ c.in-Refused.is)
+returns c = rw (sym (told (goal.at.returns c).After-judge) ∙ c.in_ok-judge.was, c.place_of.ensures)

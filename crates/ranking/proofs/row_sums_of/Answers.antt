@@ -11,7 +11,7 @@ use Rattle.ranking.proofs.row_sums_of.Goals.{In-loop-m}
 use Rattle.ranking.proofs.row_sums_of.Goals as goal
 
 pub loop-m-init : goal.loop-m-init
-loop-m-init c = (search rules, sym (ways_from-none c.args.n 17 0 (omega (arith, c.requires))), refl, λ i l h. absurd (omega arith))
+loop-m-init c = (sym (ways_from-none c.args.n 17 0 (omega (arith, c.requires))), refl, λ i l h. absurd (omega arith))
 
 -- one entry more
 next : (c : In-loop-m) →
@@ -23,7 +23,7 @@ next c =
     let l = c.loop-m in
     omega (
       arith,
-      l.invariant.1,
+      l.invariant.0,
       entry-L s.args.counts s.requires.1 s.args.n (l.m - 1) (search rules) (omega arith),
       L-ways s.args.n (l.m - 1),
       ways_from_less s.args.n l.m 0 (omega arith),
@@ -36,11 +36,10 @@ overflow_add-total-in-loop-m c = let s = c in
 pub loop-m-preserved : goal.loop-m-preserved
 loop-m-preserved c = let n = c.args.n in
     let l = c.loop-m in (
-      search rules,
       next c,
       search rules,
-      λ i lo hi. entries_set l.sums (λ i. ways_from n i 0) (l.m - 1) _ (omega arith) (next c) i (λ ne. l.invariant.3 i (omega arith) hi),
+      λ i lo hi. entries_set l.sums (λ i. ways_from n i 0) (l.m - 1) _ (omega arith) (next c) i (λ ne. l.invariant.2 i (omega arith) hi),
     )
 
 pub returns : goal.returns
-returns c = λ i h. c.loop-m.invariant.3 i (omega arith) h
+returns c = λ i h. c.loop-m.invariant.2 i (omega arith) h

@@ -7,10 +7,6 @@ use Rattle.ranking.specs.Counts.{ways_from}
 use Rattle.ranking.proofs.row_sums_of.Given as goal
 
 abbrev pub invariant-loop-m : goal.invariant-loop-m
-invariant-loop-m l = (l.m ≤ 17)
-    × (l.total ≡ ways_from l.n l.m 0)
+invariant-loop-m l = (l.total ≡ ways_from l.n l.m 0)
     × (length l.sums ≡ 17)
     × ((i : ℕ) → l.m ≤ i → i < 17 → get_or l.sums i 0 ≡ ways_from l.n i 0)
-
-abbrev pub decreases-loop-m : goal.decreases-loop-m
-decreases-loop-m l = l.m

@@ -17,7 +17,6 @@ returns-then-present-eq0 c = let a = c.args in
 pub loop-m-init : goal.loop-m-init
 loop-m-init c = let a = c.args in
     let none : (i : ℕ) → a.rest < i → ways_from a.rest i a.present ≡ 0 = λ i l. ways_from-none a.rest i a.present l in (
-      search rules,
       sym (none (a.rest + 1) (omega arith)),
       refl,
       λ i l h. get_or-replicate 17 i 0 0 h ∙ sym (none i (omega arith)),
@@ -31,7 +30,7 @@ next : (c : After-ways-total) →
 next c =
     let a = c.args in
     let l = c.loop-m in
-    omega (arith, c.ways-total.ensures, l.invariant.1, ways_from_less a.rest l.m a.present (omega arith))
+    omega (arith, c.ways-total.ensures, l.invariant.0, ways_from_less a.rest l.m a.present (omega arith))
 
 pub overflow_add-total : goal.overflow_add-total
 overflow_add-total c = let s = c in
@@ -42,11 +41,10 @@ pub loop-m-preserved : goal.loop-m-preserved
 loop-m-preserved c = let a = c.args in
     let l = c.loop-m in
     let f : ℕ → ℕ = λ i. ways_from a.rest i a.present in (
-      search rules,
       next (goal.at.loop-m-preserved c).After-ways-total,
       search rules,
-      λ i lo hi. entries_set l.totals f (l.m - 1) _ (omega arith) (next (goal.at.loop-m-preserved c).After-ways-total) i (λ ne. l.invariant.3 i (omega arith) hi),
+      λ i lo hi. entries_set l.totals f (l.m - 1) _ (omega arith) (next (goal.at.loop-m-preserved c).After-ways-total) i (λ ne. l.invariant.2 i (omega arith) hi),
     )
 
 pub returns : goal.returns
-returns c = λ i h. c.loop-m.invariant.3 i (omega arith) h
+returns c = λ i h. c.loop-m.invariant.2 i (omega arith) h

@@ -1,39 +1,26 @@
--- `window_at`: each test's failure, or the window at a place below a(n). Assumes nothing.
-use mathlib.Core.Bool.{true}
-use mathlib.Core.Path.{◌≡◌, sym, ◌∙◌}
+-- `window_at`: refused where there is no such place, or the window there. Assumes nothing.
+use mathlib.Core.Path.{sym, ◌∙◌}
+use Rattle.std.proofs.lemmas.Result.{err_from_is_err_and}
 use Rattle.weak_orders.specs.Converted.{answered}
-use Rattle.weak_orders.specs.Window.{is_length}
-use Rattle.weak_orders.proofs.FormTests.{says_length}
 use Rattle.ranking.specs.Answers.{located}
-use Rattle.ranking.proofs.Answered.{place-length, place_past, place-below, place_within}
-use Rattle.ranking.proofs.window_at.Goals.{Else-not-is_length}
+use Rattle.ranking.proofs.Answered.{place-uncounted, place_past, place-below, place_within}
 use Rattle.ranking.proofs.window_at.Goals as goal
 
-long : (c : Else-not-is_length) → is_length c.args.n ≡ true
-long c = sym c.is_length.ensures ∙ c.if-not-is_length.false
-
-pub returns-then-not-is_length : goal.returns-then-not-is_length
+pub returns-in_err-count : goal.returns-in_err-count
 unfolding located answered
-returns-then-not-is_length c = let a = c.args in
-    let l = c.is_length in
-    rw (place-length a.n a.place (sym l.ensures ∙ c.if-not-is_length.true)) c.refused.ensures
+returns-in_err-count c =
+    let p = err_from_is_err_and c.from_residual.result c.from_residual.ensures.1 in
+    rw (p.1, p.2, place-uncounted c.args.n c.args.place _ (sym c.count.ensures ∙ c.in_err-count.was))
 
-pub returns-then-weak_order_count-place : goal.returns-then-weak_order_count-place
+pub returns-then-branch-place : goal.returns-then-branch-place
 unfolding located answered
-returns-then-weak_order_count-place c = let r = c in
-    let a = r.args in
-    let k = r.weak_order_count in
-    rw (place_past a.n a.place (long (goal.at.returns-then-weak_order_count-place c).Else-not-is_length) k.result k.ensures c.if-weak_order_count-place.true) c.refused-then-weak_order_count-place.ensures
+returns-then-branch-place c = let a = c.args in
+    rw (place_past a.n a.place _ (sym c.count.ensures ∙ c.in_ok-count.was) c.if-branch-place.true)
 
 pub window_of-requires : goal.window_of-requires
-window_of-requires c = let r = c in
-    let a = r.args in
-    let k = r.weak_order_count in
-    (((says_length _).to (long (goal.at.window_of-requires c).Else-not-is_length)).1, place-below a.n a.place (long (goal.at.window_of-requires c).Else-not-is_length) k.result k.ensures c.if-weak_order_count-place.false)
+window_of-requires c = place-below c.args.n c.args.place _ (sym c.count.ensures ∙ c.in_ok-count.was) c.if-branch-place.false
 
 pub returns : goal.returns
 unfolding located answered
-returns c = let r = c in
-    let a = r.args in
-    let k = r.weak_order_count in
-    rw (place_within a.n a.place (long (goal.at.returns c).Else-not-is_length) k.result k.ensures c.if-weak_order_count-place.false, c.window_of.ensures)
+returns c = let a = c.args in
+    rw (place_within a.n a.place _ (sym c.count.ensures ∙ c.in_ok-count.was) c.if-branch-place.false, c.window_of.ensures)

@@ -14,23 +14,23 @@ start c = begun c.args.rule c.args.n c.args.w (search rules) ((says_steppable c.
 pub overflow_sub-last : goal.overflow_sub-last
 overflow_sub-last c = omega (arith, sized (start c))
 
-pub loop-i-init : goal.loop-i-init
-loop-i-init c = (start c, search rules)
+pub loop-init : goal.loop-init
+loop-init c = start c
 
 pub bounds-next-last : goal.bounds-next-last
-bounds-next-last c = omega (arith, sized c.loop-i.invariant.0)
+bounds-next-last c = omega (arith, sized c.loop.invariant)
 
 pub bounds-v-0 : goal.bounds-v-0
-bounds-v-0 c = omega (arith, sized c.loop-i.invariant.0)
+bounds-v-0 c = omega (arith, sized c.loop.invariant)
 
 pub overflow_add-total : goal.overflow_add-total
 overflow_add-total c = let a = c.args in
-    let further = onward c.loop-i.invariant.0 c.step-next.ensures c.differ-total.ensures in
-    omega (arith, further.tally, others_le a.rule (take a.n a.w) (c.loop-i.i + 1))
+    let further = onward c.loop.invariant c.step-next.ensures c.from-total.ensures in
+    omega (arith, further.tally, others_le a.rule (take a.n a.w) (c.loop.counter + 1))
 
-pub loop-i-preserved : goal.loop-i-preserved
-loop-i-preserved c = (onward c.loop-i.invariant.0 c.step-next.ensures c.differ-total.ensures, omega arith)
+pub loop-preserved : goal.loop-preserved
+loop-preserved c = onward c.loop.invariant c.step-next.ensures c.from-total.ensures
 
 pub returns : goal.returns
-returns c = let e : c.loop-i.i ≡ c.args.steps = omega arith in
-    rw e at c.loop-i.invariant.0.tally
+returns c = let e : c.loop.counter ≡ c.args.steps = omega arith in
+    rw e at c.loop.invariant.tally

@@ -7,13 +7,13 @@ use borrow.Author.Rules.{rules}
 use lib.ListN.{length, take}
 use Rattle.weak_orders.proofs.Parts.{capped_window}
 use Rattle.rotations.specs.Rotation.{rotation, own_standing}
-use Rattle.rotations.specs.declared.Comparison.{Comparison}
-use Rattle.rotations.specs.declared.Comparison.TheVariants.{Before, Same, Behind}
-use Rattle.rotations.specs.declared.Standing.TheVariants.{Greatest}
+use Rattle.std.specs.declared.cmp.Ordering.{Ordering}
+use Rattle.std.specs.declared.cmp.Ordering.TheVariants.{Less, Equal, Greater}
+use Rattle.std.specs.Prelude.{Some}
 use Rattle.rotations.proofs.Compared.{Told, told}
 use Rattle.rotations.proofs.Orders.{downward}
 use Rattle.rotations.proofs.RotationSearch.{first_one, first_stays, Found, found_again, found_once, own_greatest, own_behind}
-use Rattle.rotations.proofs.own_standing.Goals.{After-capped-end, After-compare-place}
+use Rattle.rotations.proofs.own_standing.Goals.{After-capped-end, After-compare}
 use Rattle.rotations.proofs.own_standing.Goals as goal
 
 -- the window, and that it is all that was handed in
@@ -25,39 +25,36 @@ whole : (c : After-capped-end) →
 whole c = capped_window c.args.w c.args.n 16 _ (search rules) c.capped-end.ensures
 
 -- what the comparison tells
-says : (c : After-compare-place) (k : Comparison) → c.compare-place.result ≡ k →
+says : (c : After-compare) (k : Ordering) → c.compare.result ≡ k →
     let p = c.before.before in
     Told (rotation (window p.before) 0) (rotation (window p.before) p.loop-i.i) k
-says c k e = told _ _ k (sym c.compare-place.ensures ∙ e)
+says c k e = told _ _ k (sym c.compare.ensures ∙ e)
 
 pub loop-i-init : goal.loop-i-init
 loop-i-init c = (omega arith, first_one downward (window c))
 
-pub compare-place-requires : goal.compare-place-requires
-compare-place-requires c = let S = c.loop-i.invariant.1 in search rules
-
-pub returns-in-Before : goal.returns-in-Before
-returns-in-Before c = let r = (goal.at.returns-in-Before c).After-compare-place in
+pub returns-in-Less : goal.returns-in-Less
+returns-in-Less c = let r = (goal.at.returns-in-Less c).After-compare in
     let p = r in
-    own_behind (window (goal.at.returns-in-Before c).After-capped-end) p.loop-i.i (omega (arith, (whole (goal.at.returns-in-Before c).After-capped-end).0)) (says r Before c.in-Before.is)
-    ∙ ap own_standing (whole (goal.at.returns-in-Before c).After-capped-end).1
+    own_behind (window (goal.at.returns-in-Less c).After-capped-end) p.loop-i.i (omega (arith, (whole (goal.at.returns-in-Less c).After-capped-end).0)) (says r Less c.in-Less.is)
+    ∙ ap own_standing (whole (goal.at.returns-in-Less c).After-capped-end).1
 
-pub returns-in-Same : goal.returns-in-Same
-returns-in-Same c = let r = (goal.at.returns-in-Same c).After-compare-place in
+pub returns-in-Equal : goal.returns-in-Equal
+returns-in-Equal c = let r = (goal.at.returns-in-Equal c).After-compare in
     let p = r in
-    let w = window (goal.at.returns-in-Same c).After-capped-end in
+    let w = window (goal.at.returns-in-Equal c).After-capped-end in
     let i = p.loop-i.i in
-    let again = found_again true w 0 i p.loop-i.invariant.1 (omega (arith, (whole (goal.at.returns-in-Same c).After-capped-end).0)) (sym (says r Same c.in-Same.is)) in
+    let again = found_again true w 0 i p.loop-i.invariant.1 (omega (arith, (whole (goal.at.returns-in-Equal c).After-capped-end).0)) (sym (says r Equal c.in-Equal.is)) in
     let turns : i - 0 ≡ i = omega arith in
-    own_greatest w i (subst (Found true w 1) turns again) ∙ ap own_standing (whole (goal.at.returns-in-Same c).After-capped-end).1
+    own_greatest w i (subst (Found true w 1) turns again) ∙ ap own_standing (whole (goal.at.returns-in-Equal c).After-capped-end).1
 
 pub loop-i-preserved : goal.loop-i-preserved
-loop-i-preserved c = let r = (goal.at.loop-i-preserved c).After-compare-place in
+loop-i-preserved c = let r = (goal.at.loop-i-preserved c).After-compare in
     let p = r in
-    (omega arith, first_stays downward (window (goal.at.loop-i-preserved c).After-capped-end) 0 p.loop-i.i p.loop-i.invariant.1 (says r Behind c.in-Behind.is))
+    (omega arith, first_stays downward (window (goal.at.loop-i-preserved c).After-capped-end) 0 p.loop-i.i p.loop-i.invariant.1 (says r Greater c.in-Greater.is))
 
 pub returns : goal.returns
 returns c = let p = c in
     let q = (goal.at.returns c).After-capped-end in
     let once = found_once true (window q) 0 p.loop-i.i p.loop-i.invariant.1 (omega (arith, (whole q).0)) (omega (arith, (whole q).0)) in
-    ap Greatest (sym (whole q).0) ∙ own_greatest (window q) (length (window q)) once ∙ ap own_standing (whole q).1
+    ap Some (sym (whole q).0) ∙ own_greatest (window q) (length (window q)) once ∙ ap own_standing (whole q).1

@@ -1,46 +1,42 @@
-use mathlib.Core.List.{List}
-use mathlib.Core.Path.{◌≡◌, refl, ap, sym, ◌∙◌}
+-- `turned_back`: the newest symbol, the others, and zeros. Assumes nothing.
+use mathlib.Core.List.{List, ◌∷◌, ◌++◌}
+use mathlib.Core.Path.{◌≡◌, ap, ap₂, sym, ◌∙◌}
 use Prim.Native.Nat.{ℕ, ◌-◌}
 use native.Mathlib.Omega.{arith}
 use borrow.Author.Rules.{rules}
-use lib.ListN.{length, take, get_or, length-set}
+use lib.ListN.{length, length-take, take, drop, replicate, get_or}
+use lib.Seq.{length-take-le, get_or-take}
+use Rattle.std.proofs.lemmas.List.{drop-replicate}
+use Rattle.std.proofs.lemmas.List.{take-take}
 use Rattle.weak_orders.specs.Window.{padded}
-use Rattle.weak_orders.proofs.Padded.{padded-next, padded-all}
 use Rattle.weak_orders.proofs.Parts.{capped_window}
-use Rattle.rotations.specs.Rotation.{rotation, turned_back}
-use Rattle.rotations.proofs.Rotations.{turned_back_lem, length_rotated}
+use Rattle.rotations.specs.Rotation.{turned_back}
+use Rattle.rotations.proofs.Rotations.{newest_front}
 use Rattle.rotations.proofs.turned_back.Goals.{After-capped-end}
 use Rattle.rotations.proofs.turned_back.Goals as goal
 
--- the window, and that it is all that was handed in
-abbrev window : After-capped-end → List ℕ
-window c = take c.capped-end.result c.args.w
-
-whole : (c : After-capped-end) →
-    (length (window c) ≡ c.capped-end.result) × (window c ≡ take c.args.n c.args.w)
+-- what is looked at is all that was handed in
+whole : (c : After-capped-end) → let u = take c.capped-end.result c.args.w in (length u ≡ c.capped-end.result) × (u ≡ take c.args.n c.args.w)
 whole c = capped_window c.args.w c.args.n 16 _ (search rules) c.capped-end.ensures
 
-pub loop-i-init : goal.loop-i-init
+pub returns-then-end-gt0 : goal.returns-then-end-gt0
 unfolding padded
-loop-i-init c = (search rules, refl, search rules)
+returns-then-end-gt0 c =
+    let w = c.args.w in
+    let end = c.capped-end.result in
+    let m = end - 1 in
+    let (len, same) = whole (goal.at.returns-then-end-gt0 c).After-capped-end in
+    let x = get_or w m 0 in
+    let p = take m w in
+    let size : length p ≡ m = length-take-le m w (omega (arith, length-take end w)) in
+    let zeros : 15 - m ≡ 16 - length (x ∷ p) = omega arith in
+    let copied : c.copy_from_slice.new.self ≡ p = c.copy_from_slice.ensures.after in
+    let behind : drop m (replicate 15 0) ≡ replicate (16 - length (x ∷ p)) 0 = drop-replicate m 15 0 ∙ ap (λ (k : ℕ). replicate k 0) zeros in
+    let turned : turned_back (take end w) ≡ x ∷ p =
+    newest_front (take end w) (omega arith) ∙ rw (len, get_or-take end w m 0 (omega arith), take-take m end w (omega arith)) in
+    ap₂ (λ (a b : List ℕ). x ∷ (a ++ b)) copied behind ∙ ap padded (sym turned ∙ ap turned_back same)
 
-pub loop-i-preserved : goal.loop-i-preserved
-unfolding turned_back
-loop-i-preserved c = let p = c in
-    let w = p.args.w in
-    let u = window (goal.at.loop-i-preserved c).After-capped-end in
-    let size = (whole (goal.at.loop-i-preserved c).After-capped-end).0 in
-    let turned = length_rotated (turned_back_lem u) in
-    let long : length w ≡ 16 = search rules in
-    let moved : get_or w c.cyclic-k.result 0 ≡ get_or (turned_back u) p.loop-i.i 0 =
-    c.cyclic-k.ensures.1 w (omega arith) ∙ ap (λ m. get_or (rotation u (m - 1)) p.loop-i.i 0) (sym size) in (
-      omega arith,
-      padded-next (turned_back u) p.loop-i.v p.loop-i.i _ (omega arith) (omega arith) p.loop-i.invariant.1 moved,
-      simp length-set p.loop-i.invariant.2,
-    )
-
-pub returns : goal.returns
-returns c = let p = c in
-    let (size, same) = whole (goal.at.returns c).After-capped-end in
-    let turned = length_rotated (turned_back_lem (window (goal.at.returns c).After-capped-end)) in
-    padded-all _ p.loop-i.v p.loop-i.i (omega arith) p.loop-i.invariant.1 ∙ ap (λ u. padded (turned_back u)) same
+pub returns-else-end-gt0 : goal.returns-else-end-gt0
+unfolding padded turned_back
+returns-else-end-gt0 c = let z : c.capped-end.result ≡ 0 = omega arith in
+    ap (λ u. padded (turned_back u)) (ap (λ (k : ℕ). take k c.args.w) (sym z) ∙ (whole (goal.at.returns-else-end-gt0 c).After-capped-end).1)

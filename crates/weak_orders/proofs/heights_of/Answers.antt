@@ -13,7 +13,7 @@ use Rattle.weak_orders.proofs.heights_of.Goals as goal
 
 pub loop-i-init : goal.loop-i-init
 unfolding padded
-loop-i-init c = (search rules, refl, search rules)
+loop-i-init c = (refl, search rules)
 
 pub bounds-w-i : goal.bounds-w-i
 bounds-w-i c = let a = c.args in
@@ -40,7 +40,7 @@ loop-i-preserved c = let a = c.args in
     let low = rank_low a.w a.n l le r x (at_part a.w 0 a.n (omega arith) p.i (omega arith) (omega arith)) in
     let found : c.height_of.result ≡ height u x =
     c.height_of.ensures ∙ ap (λ b. ones (b % 2 ^ x)) c.present-bits.ensures ∙ ones-height u x (omega arith) in
-    (omega arith, padded-map (height u) a.w p.v a.n p.i _ l le (omega arith) p.invariant.1 found, simp length-set p.invariant.2)
+    (padded-map (height u) a.w p.v a.n p.i _ l le (omega arith) p.invariant.0 found, simp length-set p.invariant.1)
 
 pub returns : goal.returns
 unfolding heights
@@ -48,4 +48,4 @@ returns c = let a = c.args in
     let p = c.loop-i in
     let (pos, le, r) = of_rank_window a.w a.n c.requires in
     let l : length a.w ≡ 16 = search rules in
-    padded_mapped (height (take a.n a.w)) a.w p.v a.n p.i l le (omega arith) p.invariant.1
+    padded_mapped (height (take a.n a.w)) a.w p.v a.n p.i l le (omega arith) p.invariant.0

@@ -2,33 +2,30 @@
 use mathlib.Core.Path.{◌≡◌, sym, ◌∙◌}
 use lib.ListN.{length, take}
 use borrow.Author.Rules.{rules}
-use Rattle.refusals.specs.declared.Verdict.TheVariants.{Accepted}
+use Rattle.std.proofs.lemmas.Result.{err_from_is_err_and}
 use Rattle.weak_orders.specs.Converted.{is_rank_window, judged_in, answered, rank_to_height}
 use Rattle.weak_orders.specs.Window.{is_rank}
 use Rattle.weak_orders.proofs.Judged.{judged_array, accepted_by}
-use Rattle.weak_orders.proofs.rank_to_height.Goals.{After-judge-verdict, In-Accepted}
+use Rattle.weak_orders.proofs.rank_to_height.Goals.{After-judge}
 use Rattle.weak_orders.proofs.rank_to_height.Goals as goal
 
 -- the verdict on the window
-told : (c : After-judge-verdict) → let a = c.args in c.judge-verdict.result ≡ judged_in is_rank a.n (take a.n a.w)
+told : (c : After-judge) → let a = c.args in c.judge.result ≡ judged_in is_rank a.n (take a.n a.w)
 unfolding is_rank_window
 told c =
     let a = c.args in
     let l : length a.w ≡ 16 = search rules in
-    c.judge-verdict.ensures ∙ rw c.is_rank.ensures (judged_array is_rank a.n a.w l)
+    c.judge.ensures ∙ rw c.is_rank.ensures (judged_array is_rank a.n a.w l)
 
-passed : (c : In-Accepted) → let a = c.args in judged_in is_rank a.n (take a.n a.w) ≡ Accepted
-passed c = sym (told c.before) ∙ c.in-Accepted.is
-
-pub heights_of-v-requires : goal.heights_of-v-requires
-heights_of-v-requires c = let r = c in
-    sym r.is_rank.ensures ∙ (accepted_by _ _ (sym r.judge-verdict.ensures ∙ c.in-Accepted.is)).1
-
-pub returns-in-Accepted : goal.returns-in-Accepted
+pub returns-in_err-judge : goal.returns-in_err-judge
 unfolding rank_to_height answered
-returns-in-Accepted c = rw (passed (goal.at.returns-in-Accepted c).In-Accepted, c.in-Accepted.is, c.heights_of-v.ensures)
+returns-in_err-judge c =
+    let p = err_from_is_err_and c.from_residual.result c.from_residual.ensures.1 in
+    rw (p.1, p.2, sym (told (goal.at.returns-in_err-judge c).After-judge) ∙ c.in_err-judge.was)
 
-pub returns-in-Refused : goal.returns-in-Refused
+pub heights_of-requires : goal.heights_of-requires
+heights_of-requires c = sym c.is_rank.ensures ∙ (accepted_by _ _ (sym c.judge.ensures ∙ c.in_ok-judge.was)).1
+
+pub returns : goal.returns
 unfolding rank_to_height answered
-returns-in-Refused c = let v = c in
-    rw (sym (told (goal.at.returns-in-Refused c).After-judge-verdict) ∙ v.in-Refused.is) c.refused.ensures
+returns c = rw (sym (told (goal.at.returns c).After-judge) ∙ c.in_ok-judge.was, c.heights_of.ensures)

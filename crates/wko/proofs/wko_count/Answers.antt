@@ -5,6 +5,4 @@ use Rattle.wko.proofs.wko_count.Goals as goal
 
 pub returns : goal.returns
 unfolding count_call
-returns c = let g = c in
-    let r = g in
-    g.give_number.ensures ∙ ap (λ x. number_given x r.args.out.now) r.count.ensures
+returns c = c.give_number.ensures ∙ ap (λ x. number_given x c.args.out.now) c.count.ensures

@@ -1,7 +1,13 @@
--- `wko_next_symbol`: the next one of the two. Assumes nothing.
-use Rattle.wko.specs.Calls.{next_symbol_call}
+-- `wko_next_symbol`: the slice's own. Assumes nothing.
+use mathlib.Core.Path.{ap, ◌∙◌}
+use Rattle.successors.specs.NextSymbol.{next_number}
+use Rattle.wko.specs.Calls.{symbol_call, next_symbol_call}
+use Rattle.wko.proofs.Cases.{next_slice}
 use Rattle.wko.proofs.wko_next_symbol.Goals as goal
 
 pub returns : goal.returns
-unfolding next_symbol_call
-returns c = c.symbol_beside.ensures
+unfolding symbol_call next_symbol_call
+returns c =
+    let a = c.args in
+    let (symbol, post, told) = c.symbol_beside.ensures in
+    told ∙ ap next_number (post.1 ∙ next_slice a.n a.rule a.window.now)

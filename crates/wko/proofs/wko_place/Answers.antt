@@ -7,9 +7,6 @@ use Rattle.wko.proofs.wko_place.Goals as goal
 
 pub returns : goal.returns
 unfolding place_call
-returns c = let g = c in
-    let r = g in
-    let l = r.load-w in
-    let a = r.args in
-    let e : r.place.result ≡ placed a.n a.window.now = r.place.ensures ∙ rw l.ensures (place_slice a.n a.window.now) in
-    g.give_number.ensures ∙ ap (λ p. number_given p a.out.now) e
+returns c = let a = c.args in
+    let own : c.place.result ≡ placed a.n a.window.now = c.place.ensures ∙ rw c.load-w.ensures (place_slice a.n a.window.now) in
+    c.give_number.ensures ∙ ap (λ p. number_given p a.out.now) own

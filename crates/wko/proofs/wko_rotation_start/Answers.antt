@@ -1,9 +1,15 @@
--- `wko_rotation_start`: the start of the two numbers. Assumes nothing.
-use mathlib.Core.Path.{ap}
-use Rattle.wko.specs.Calls.{rotation_start_call}
-use Rattle.wko.specs.declared.RotationNumbers.{RotationNumbers}
+-- `wko_rotation_start`: the number of the rotation. Assumes nothing.
+use borrow.Author.Rules.{rules}
+use mathlib.Core.Path.{◌≡◌, ap, ◌∙◌}
+use Rattle.rotations.specs.declared.Rotation.{Rotation}
+use Rattle.successors.specs.NextSymbol.{next_number}
+use Rattle.wko.specs.Calls.{mapped, rotation_start_call}
+use Rattle.wko.proofs.Cases.{mapped_from}
 use Rattle.wko.proofs.wko_rotation_start.Goals as goal
 
 pub returns : goal.returns
 unfolding rotation_start_call
-returns c = ap (λ (x : RotationNumbers). x.start) c.rotation_numbers.ensures
+returns c =
+    let number : Rotation → _ = λ r. r.start in
+    let found : c.map.result ≡ mapped number c.rotation.result = search (rules, mapped_from) in
+    c.answer.ensures ∙ ap next_number (found ∙ ap (mapped number) c.rotation.ensures.value)

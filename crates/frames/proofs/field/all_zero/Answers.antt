@@ -1,29 +1,21 @@
-use mathlib.Core.Bool.{◌&&◌}
-use mathlib.Core.Path.{◌≡◌, refl, sym, ◌∙◌}
-use Prim.Native.Nat.{◌+◌}
-use lib.Dec.{eqb}
-use lib.ListN.{drop}
+use mathlib.Core.Path.{sym, ◌∙◌}
+use native.Mathlib.Omega.{arith}
 use borrow.Author.Tests.{eq-eqb, ne_eqb}
-use Rattle.frames.specs.Fields.{byte, zeros}
+use Rattle.frames.specs.Fields.{byte}
 use Rattle.frames.proofs.ByteTests.{zeros-drop, zeros-none}
-use Rattle.frames.proofs.field.all_zero.Goals.{In-loop-i}
 use Rattle.frames.proofs.field.all_zero.Goals as goal
 
--- the byte at i, and those behind it
-first : (c : In-loop-i) →
+pub returns-then-byte-ne0 : goal.returns-then-byte-ne0
+returns-then-byte-ne0 c =
     let s = c.args.s.now in
-    let i = c.loop-i.i in
-    zeros s ≡ (eqb 0 (byte s i) && zeros (drop (i + 1) s))
-first c = c.loop-i.invariant ∙ zeros-drop c.args.s.now c.loop-i.i c.loop-i-test.true
+    let i = c.loop-byte.byte-index in
+    rw (c.loop-byte.invariant ∙ zeros-drop s i (omega arith), ne_eqb 0 (byte s i) (λ e. c.if-byte-ne0.true (sym e)))
 
-pub loop-i-init : goal.loop-i-init
-loop-i-init c = refl
-
-pub returns-then-s-i-ne0 : goal.returns-then-s-i-ne0
-returns-then-s-i-ne0 c = rw (first (goal.at.returns-then-s-i-ne0 c).In-loop-i, ne_eqb 0 _ (λ e. c.if-s-i-ne0.true (sym e)))
-
-pub loop-i-preserved : goal.loop-i-preserved
-loop-i-preserved c = rw (eq-eqb 0 _ (sym c.if-s-i-ne0.false)) at (first (goal.at.loop-i-preserved c).In-loop-i)
+pub loop-byte-preserved : goal.loop-byte-preserved
+loop-byte-preserved c =
+    let s = c.args.s.now in
+    let i = c.loop-byte.byte-index in
+    rw (eq-eqb 0 (byte s i) (sym c.if-byte-ne0.false)) at (c.loop-byte.invariant ∙ zeros-drop s i (omega arith))
 
 pub returns : goal.returns
-returns c = sym (c.loop-i.invariant ∙ zeros-none c.args.s.now c.loop-i.i c.loop-i-test.false)
+returns c = sym (c.loop-byte.invariant ∙ zeros-none c.args.s.now c.loop-byte.byte-index (omega arith))

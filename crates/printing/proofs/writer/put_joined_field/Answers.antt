@@ -29,23 +29,23 @@ size c =
     omega (arith, ap length (text c), length-append (decimal (get_or a.w 0 0)) (rest ++ (a.end ∷ [])), length-append rest (a.end ∷ []))
 
 pub put_decimal-others-requires : goal.put_decimal-others-requires
-put_decimal-others-requires c = omega (arith, c.requires.2, size (goal.at.put_decimal-others-requires c).Start)
+put_decimal-others-requires c = omega (arith, c.requires.2, size (goal.at.put_decimal-others-requires c).Start, ap (λ v. length (decimal v)) c.from.ensures)
 
 pub put_others-last-requires : goal.put_others-last-requires
 put_others-last-requires c = let d = c in
     let s = (goal.at.put_others-last-requires c).Start in
-    (s.requires.0, s.requires.1, omega (arith, s.requires.2, size s, d.put_decimal-others.ensures.end, d.put_decimal-others.auto.out))
+    (s.requires.0, s.requires.1, omega (arith, s.requires.2, size s, ap (λ v. length (decimal v)) c.from.ensures, d.put_decimal-others.ensures.end, d.put_decimal-others.auto.out))
 
 pub put-requires : goal.put-requires
 put-requires c = let o = c in
     let d = o in
     let s = (goal.at.put-requires c).Start in
-    omega (arith, s.requires.2, size s, d.put_decimal-others.ensures.end, d.put_decimal-others.auto.out, o.put_others-last.ensures.end, o.put_others-last.auto.out)
+    omega (arith, s.requires.2, size s, ap (λ v. length (decimal v)) c.from.ensures, d.put_decimal-others.ensures.end, d.put_decimal-others.auto.out, o.put_others-last.ensures.end, o.put_others-last.auto.out)
 
 pub returns : goal.returns
 returns c = let p = c in
     let o = p in
     let d = o in
     let s = (goal.at.returns c).Start in
-    let rest = wrote_then o.put_others-last.ensures p.put.ensures (omega (arith, s.requires.2, size s, d.put_decimal-others.ensures.end, d.put_decimal-others.auto.out)) in
-    rw (text s) (wrote_then d.put_decimal-others.ensures rest (omega (arith, s.requires.2, size s)))
+    let rest = wrote_then o.put_others-last.ensures p.put.ensures (omega (arith, s.requires.2, size s, ap (λ v. length (decimal v)) c.from.ensures, d.put_decimal-others.ensures.end, d.put_decimal-others.auto.out)) in
+    rw (text s) (wrote_then (rw c.from.ensures at d.put_decimal-others.ensures) rest (omega (arith, s.requires.2, size s)))

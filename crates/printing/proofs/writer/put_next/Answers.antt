@@ -2,6 +2,7 @@
 use native.Mathlib.Omega.{arith}
 use mathlib.Core.Path.{ap}
 use lib.ListN.{length}
+use Rattle.decimals.specs.Text.{decimal}
 use Rattle.printing.proofs.Written.{wrote_then}
 use Rattle.printing.proofs.WrittenLists.{commaed_one}
 use Rattle.printing.proofs.writer.put_next.Goals as goal
@@ -12,10 +13,10 @@ put-next-requires c = let a = c in omega (arith, a.requires, ap length (commaed_
 pub put_decimal-requires : goal.put_decimal-requires
 put_decimal-requires c = let p = c in
     let a = p in
-    omega (arith, a.requires, ap length (commaed_one a.args.v), p.put-next.ensures.end, p.put-next.auto.out)
+    omega (arith, a.requires, ap length (commaed_one a.args.v), ap (λ v. length (decimal v)) c.from.ensures, p.put-next.ensures.end, p.put-next.auto.out)
 
 pub returns : goal.returns
 returns c = let d = c in
     let p = d in
     let a = p in
-    rw (commaed_one a.args.v) (wrote_then p.put-next.ensures d.put_decimal.ensures (omega (arith, a.requires, ap length (commaed_one a.args.v))))
+    rw (commaed_one a.args.v) (wrote_then p.put-next.ensures (rw c.from.ensures at d.put_decimal.ensures) (omega (arith, a.requires, ap length (commaed_one a.args.v))))

@@ -15,13 +15,13 @@ room : (c : At-loop-i) →
 room c =
     let a = c in
     let long : length a.args.w ≡ 16 = search rules in
-    omega (arith, a.requires.2, others_le a.args.w c.loop-i.i a.args.n c.loop-i.invariant.0 c.loop-i.invariant.1 (omega arith))
+    omega (arith, a.requires.2, others_le a.args.w c.loop-i.i a.args.n (omega arith) (omega arith) (omega arith))
 
 size : (c : At-loop-i) → length c.loop-i.out ≡ length c.args.out.now
-size c = wrote_length c.loop-i.invariant.2 (room c)
+size c = wrote_length c.loop-i.invariant (room c)
 
 pub loop-i-init : goal.loop-i-init
-loop-i-init c = (search rules, search rules, rw (no_others c.args.w) (wrote_none _ _))
+loop-i-init c = rw (no_others c.args.w) (wrote_none _ _)
 
 pub put_next-next-requires : goal.put_next-next-requires
 put_next-next-requires c = let l = (goal.at.put_next-next-requires c).At-loop-i in
@@ -30,8 +30,8 @@ put_next-next-requires c = let l = (goal.at.put_next-next-requires c).At-loop-i 
     omega (
       arith,
       a.requires.2,
-      others_room a.args.w l.loop-i.i l.loop-i.invariant.0 (omega arith) a.args.n c.loop-i-test.true (omega arith),
-      l.loop-i.invariant.2.end,
+      others_room a.args.w l.loop-i.i (omega arith) (omega arith) a.args.n c.loop-i-test.true (omega arith),
+      l.loop-i.invariant.end,
       size l,
     )
 
@@ -40,8 +40,8 @@ loop-i-preserved c = let l = (goal.at.loop-i-preserved c).At-loop-i in
     let a = l in
     let n = c.put_next-next in
     let long : length a.args.w ≡ 16 = search rules in
-    let both = wrote_then l.loop-i.invariant.2 n.ensures (room l) in
-    (omega arith, omega arith, rw (commaed-next a.args.w l.loop-i.i l.loop-i.invariant.0 (omega arith)) at both)
+    let both = wrote_then l.loop-i.invariant n.ensures (room l) in
+    rw (commaed-next a.args.w l.loop-i.i (omega arith) (omega arith)) at both
 
 pub shape_of-out : goal.shape_of-out
 shape_of-out c = size (goal.at.shape_of-out c).At-loop-i
@@ -49,4 +49,4 @@ shape_of-out c = size (goal.at.shape_of-out c).At-loop-i
 pub returns : goal.returns
 returns c = let l = c in
     let e : l.loop-i.i ≡ l.args.n = omega arith in
-    rw e at l.loop-i.invariant.2
+    rw e at l.loop-i.invariant

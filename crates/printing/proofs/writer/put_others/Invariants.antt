@@ -1,12 +1,8 @@
 -- `put_others`: the symbols so far are written, each behind a comma. Assumes nothing.
-use Prim.Native.Nat.{◌-◌, ◌≤◌}
 use lib.ListN.{take, drop}
 use Rattle.decimals.specs.Text.{commaed}
 use Rattle.printing.specs.Writing.{Wrote}
 use Rattle.printing.proofs.writer.put_others.Given as goal
 
 abbrev pub invariant-loop-i : goal.invariant-loop-i
-invariant-loop-i l = (1 ≤ l.i) × (l.i ≤ l.n) × Wrote l.initial.out l.at (commaed (drop 1 (take l.i l.w))) l.next l.out
-
-abbrev pub decreases-loop-i : goal.decreases-loop-i
-decreases-loop-i l = l.n - l.i
+invariant-loop-i l = Wrote l.initial.out l.at (commaed (drop 1 (take l.i l.w))) l.next l.out

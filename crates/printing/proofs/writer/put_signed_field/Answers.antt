@@ -13,16 +13,16 @@ use Rattle.printing.proofs.writer.put_signed_field.Goals as goal
 
 -- the text, below zero and from zero on
 below : (c : Then-z-lt0) → let a = c.args in
-    signed a.z ++ (a.end ∷ []) ≡ 45 ∷ (decimal c.magnitude-v.result ++ (a.end ∷ []))
+    signed a.z ++ (a.end ∷ []) ≡ 45 ∷ (decimal c.from-v.result ++ (a.end ∷ []))
 below c =
     let s = c in
-    rw (signed_below s.args.z (simp (to_z-of_z s.ranges.z) at c.if-z-lt0.true), c.magnitude-v.ensures ∙ ap nat_abs (to_z-of_z c.ranges.z))
+    rw (signed_below s.args.z (simp (to_z-of_z s.ranges.z) at c.if-z-lt0.true), c.from-v.ensures ∙ c.unsigned_abs.ensures.value ∙ ap nat_abs (to_z-of_z c.ranges.z))
 
 above : (c : Else-z-lt0) → let a = c.args in
-    signed a.z ++ (a.end ∷ []) ≡ decimal c.magnitude-v.result ++ (a.end ∷ [])
+    signed a.z ++ (a.end ∷ []) ≡ decimal c.from-v.result ++ (a.end ∷ [])
 above c =
     let s = c in
-    rw (signed_above s.args.z (simp (to_z-of_z s.ranges.z) at c.if-z-lt0.false), c.magnitude-v.ensures ∙ ap nat_abs (to_z-of_z c.ranges.z))
+    rw (signed_above s.args.z (simp (to_z-of_z s.ranges.z) at c.if-z-lt0.false), c.from-v.ensures ∙ c.unsigned_abs.ensures.value ∙ ap nat_abs (to_z-of_z c.ranges.z))
 
 pub put-next-requires : goal.put-next-requires
 put-next-requires c = let t = (goal.at.put-next-requires c).Then-z-lt0 in

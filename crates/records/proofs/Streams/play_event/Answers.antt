@@ -7,7 +7,7 @@ use Rattle.records.proofs.Streams.play_event.Goals as goal
 pub returns-in-70-clause-plays : goal.returns-in-70-clause-plays
 returns-in-70-clause-plays g c =
     rw (sym c.read_part.ensures.output)
-    (letter_plays IsFrame 70 _ _ _ c.read_part.new.part _ _ _ _ _
+    (letter_plays IsFrame 70 _ _ c.read_part.new.part _ _ _ _ _
     (one_of _ _ (search rules) c.in-70.is)
     frame_letter
     (λ e h. inl h)
@@ -17,7 +17,7 @@ returns-in-70-clause-plays g c =
 pub returns-in-76-clause-plays : goal.returns-in-76-clause-plays
 returns-in-76-clause-plays g c =
     rw (sym c.read_part.ensures.output)
-    (letter_plays IsFile 76 _ _ _ c.read_part.new.part _ _ _ _ _
+    (letter_plays IsFile 76 _ _ c.read_part.new.part _ _ _ _ _
     (one_of _ _ (search rules) c.in-76.is)
     file_letter
     (λ e h. inr h)

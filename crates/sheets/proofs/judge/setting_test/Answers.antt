@@ -41,13 +41,13 @@ pub returns-then-not-top_ok : goal.returns-then-not-top_ok
 returns-then-not-top_ok c = let t = (goal.at.returns-then-not-top_ok c).After-top_ok in
     let a = t.args in
     let out = sym (top-told t) ∙ not-true t.top_ok.result c.if-not-top_ok.true-raw in
-    c.no_setting.ensures ∙ sym (top_out a.n a.top a.spacing out)
+    sym (top_out a.n a.top a.spacing out)
 
 pub returns-then-not-spacing_ok : goal.returns-then-not-spacing_ok
 returns-then-not-spacing_ok c = let t = c in
     let a = t.args in
     let out = sym t.spacing_ok.ensures ∙ not-true t.spacing_ok.result c.if-not-spacing_ok.true-raw in
-    c.no_setting-then-not-spacing_ok.ensures ∙ sym (spacing_out a.n a.top a.spacing out)
+    sym (spacing_out a.n a.top a.spacing out)
 
 pub overflow_cast-top : goal.overflow_cast-top
 overflow_cast-top c = let k = (goal.at.overflow_cast-top c).Else-not-top_ok in
@@ -60,7 +60,7 @@ pub returns-then-not-setting_ok : goal.returns-then-not-setting_ok
 returns-then-not-setting_ok c = let k = (goal.at.returns-then-not-setting_ok c).After-setting_ok in
     let a = k.args in
     let out = sym (judged k) ∙ not-true k.setting_ok.result c.if-not-setting_ok.true-raw in
-    c.no_setting-then-not-setting_ok.ensures ∙ sym (not_ok a.n a.top a.spacing out)
+    sym (not_ok a.n a.top a.spacing out)
 
 pub returns : goal.returns
 returns c = let k = (goal.at.returns c).After-setting_ok in

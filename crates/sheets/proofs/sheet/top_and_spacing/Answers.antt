@@ -1,68 +1,30 @@
 -- `top_and_spacing`: the second field stands where the first one ends. Assumes nothing.
-use native.Mathlib.Omega.{arith}
-use mathlib.Core.Path.{◌≡◌, sym, ap, ◌∙◌}
-use Prim.Native.Nat.{◌+◌, ◌≤◌}
-use lib.ListN.{length, drop}
-use mir.Facts.{to_z-of_z}
-use mir.Syntax.{w32}
-use mir.Val.{SFits}
-use Rattle.decimals.specs.Held.{decimal_of}
-use Rattle.decimals.specs.Reading.{found, ended, number, signed_number}
-use Rattle.decimals.proofs.Answers.{found_number, no_number, found_signed, no_signed, both-none, both_one, both_found}
-use Rattle.decimals.proofs.Cursors.{part_from}
+use mathlib.Core.Path.{◌≡◌, refl, sym, ap, ◌∙◌}
+use Rattle.decimals.specs.Held.{taken}
+use Rattle.decimals.specs.Reading.{found, next, both, ended, number, signed_number}
+use Rattle.decimals.proofs.Answers.{field-missing, field-other, field_taken, both-none}
 use Rattle.decimals.proofs.Readers.{takes_within}
 use Rattle.sheets.specs.Sheet.{top_and_spacing}
-use Rattle.sheets.specs.Held.{top_and_spacing_of}
-use Rattle.sheets.proofs.SheetTexts.{reads_signed_field, reads_top_and_spacing}
-use borrow.Author.Rules.{rules}
-use Rattle.sheets.proofs.sheet.top_and_spacing.Goals.{In-Number, In-Number-number_field}
+use Rattle.sheets.proofs.SheetTexts.{reads_signed_field}
+use Rattle.sheets.proofs.sheet.top_and_spacing.Goals.{In_ok-top}
 use Rattle.sheets.proofs.sheet.top_and_spacing.Goals as goal
 
--- what the first field is, and that it ends within the text
-read₁ : (c : In-Number) → ended signed_number 32 c.args.s.now ≡ found c.in-Number.top c.in-Number.a
-read₁ c = found_signed _ (sym c.signed_field.ensures ∙ c.in-Number.is)
+first : (c : In_ok-top) → ended signed_number 32 c.args.s.now ≡ found c.in_ok-top.top.value c.in_ok-top.top.len
+first c = field_taken signed_number 32 refl c.in_ok-signed_number.ensures c.in_ok-top.ensures
 
-within : (c : In-Number) → c.in-Number.a ≤ length c.args.s.now
-within c = takes_within (reads_signed_field.sound c.args.s.now _ c.in-Number.a (read₁ c)).0
-
--- and the second
-read₂ : (c : In-Number-number_field) →
-    ended number 32 (drop c.in-Number.a c.args.s.now) ≡ found c.in-Number-number_field.spacing c.in-Number-number_field.b
-read₂ c =
-    let part = ap (λ t. decimal_of (ended number 32 t)) (part_from c.args.s.now c.in-Number.a) in
-    found_number _ (sym (c.number_field.ensures ∙ part) ∙ c.in-Number-number_field.is)
-
-both_read : (c : In-Number-number_field) →
-    top_and_spacing c.args.s.now ≡ found (c.in-Number.top, c.in-Number-number_field.spacing) (c.in-Number.a + c.in-Number-number_field.b)
+pub returns-in_err-signed_number : goal.returns-in_err-signed_number
 unfolding top_and_spacing
-both_read c =
-    both_found (ended signed_number 32) (ended number 32) c.args.s.now (found_signed _ (sym c.signed_field.ensures ∙ c.in-Number.is)) (read₂ c)
+returns-in_err-signed_number c = rw (c.from_residual.ensures, both-none (ended signed_number 32) (ended number 32) c.args.s.now (field-missing (λ x. x) signed_number 32 refl c.in_err-signed_number.ensures))
 
-pub returns-in_default : goal.returns-in_default
-unfolding top_and_spacing top_and_spacing_of
-returns-in_default c = let r = c in
-    let s = r.args.s.now in
-    let e = no_signed (ended signed_number 32 s) (sym r.signed_field.ensures ∙ c.in_default.is) in
-    rw (both-none (ended signed_number 32) (ended number 32) s e)
+pub returns-in_err-top : goal.returns-in_err-top
+unfolding top_and_spacing
+returns-in_err-top c =
+    let e = field-other (λ x. x) signed_number 32 refl c.in_ok-signed_number.ensures c.in_err-top.ensures in
+    rw (c.from_residual-in_err-top.ensures, both-none (ended signed_number 32) (ended number 32) c.args.s.now e)
 
-pub slice_bounds-number_field-count : goal.slice_bounds-number_field-count
-slice_bounds-number_field-count c = within c
-
-pub slice_bounds-number_field-start : goal.slice_bounds-number_field-start
-slice_bounds-number_field-start c = within c
-
-pub returns-in_default-number_field : goal.returns-in_default-number_field
-unfolding top_and_spacing top_and_spacing_of
-returns-in_default-number_field c = let r = c in
-    let k = (goal.at.returns-in_default-number_field c).In-Number in
-    let part = ap (λ t. decimal_of (ended number 32 t)) (part_from c.args.s.now c.in-Number.a) in
-    let e = no_number _ (sym (r.number_field.ensures ∙ part) ∙ c.in_default-number_field.is) in
-    rw (both_one (ended signed_number 32) (ended number 32) c.args.s.now (read₁ k) e)
-
-pub overflow_add-result : goal.overflow_add-result
-overflow_add-result c = record { fits = omega (arith, takes_within (reads_top_and_spacing.sound c.args.s.now _ _ (both_read c)).0) }
+pub and_number-requires : goal.and_number-requires
+and_number-requires c = takes_within (reads_signed_field.sound _ _ _ (first (goal.at.and_number-requires c).In_ok-top)).0
 
 pub returns : goal.returns
-unfolding top_and_spacing_of
-returns c = let h : SFits w32 c.in-Number.top = search rules in
-    rw (to_z-of_z h, both_read c)
+unfolding top_and_spacing both
+returns c = c.and_number.ensures ∙ ap (λ f. taken (next f (ended number 32) c.args.s.now)) (sym (first (goal.at.returns c).In_ok-top))

@@ -5,4 +5,4 @@ use Rattle.wko.proofs.session.wko_exchange.Goals as goal
 
 pub returns : goal.returns
 unfolding exchange_call
-returns c = rw c.number.ensures (ap for_c c.exchange-x.ensures)
+returns c = rw (c.from.ensures, c.number.ensures) (ap for_c c.exchange-exchanged.ensures)

@@ -5,4 +5,4 @@ use Rattle.wko.proofs.session.wko_load_levels.Goals as goal
 
 pub returns : goal.returns
 unfolding load_call
-returns c = rw c.number.ensures (ap loaded_for_c c.load_levels-x.ensures)
+returns c = rw (c.from.ensures, c.number.ensures) (ap loaded_for_c c.load_levels-loaded.ensures)

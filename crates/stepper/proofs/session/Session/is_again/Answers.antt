@@ -1,7 +1,7 @@
 -- `Session::is_again`: no frame has an n above 255; else the bytes of the begin frame in force are compared. Assumes nothing.
 use mathlib.Core.Bool.{false, ◌&&◌}
 use mathlib.Core.List.{List}
-use mathlib.Core.Path.{◌≡◌, ap}
+use mathlib.Core.Path.{◌≡◌, ap, ◌∙◌}
 use Prim.Native.Nat.{ℕ, ◌<◌}
 use native.Mathlib.Omega.{arith}
 use lib.Dec.{eqb}
@@ -14,6 +14,7 @@ use Rattle.frames.proofs.ByteTests.{says_same_bytes}
 use Rattle.stepper.specs.declared.session.Session.{Session}
 use Rattle.stepper.specs.Exchange.{begun_by, again_if}
 use borrow.Author.Rules.{rules}
+use borrow.Author.Tests.{eq-eqb, ne_eqb}
 use Rattle.stepper.proofs.session.Session.is_again.Goals as goal
 
 -- a frame's n is a byte
@@ -21,21 +22,24 @@ other_length : (s : Session) (f : List ℕ) → 255 < s.n → byte f 5 < 256 →
 unfolding begun_by begin_bytes
 other_length s f large small = not_true→false _ (λ t. omega (arith, ap length_in ((says_same_bytes f (begun_by s)).to t)))
 
-pub returns-then-not-force : goal.returns-then-not-force
+pub returns-in_default : goal.returns-in_default
 unfolding again_if
-returns-then-not-force c = let s = c.args in rw c.if-not-force.true
-
-pub returns-then-n-gt255 : goal.returns-then-n-gt255
-unfolding again_if
-returns-then-n-gt255 c =
+returns-in_default c =
     let s = c.args in
     let small : Fits w8 (byte s.f 5) = search rules in
-    rw (c.if-not-force.false, other_length s.self s.f c.if-n-gt255.true small.fits)
-    (by_test (eqb s.self.done 0) (λ e. rw e) (λ e. rw e))
+    let large : 255 < s.self.n = omega (arith, c.in_default.ensures) in
+    rw (other_length s.self s.f large small.fits)
+    (by_test s.force (λ e. rw e (by_test (eqb s.self.done 0) (λ e. rw e) (λ e. rw e))) (λ e. rw e))
 
-pub returns : goal.returns
+pub returns-then-not-force : goal.returns-then-not-force
+unfolding again_if
+returns-then-not-force c = rw c.if-not-force.true
+
+pub returns-then-self-eq0 : goal.returns-then-self-eq0
 unfolding again_if begun_by
-returns c =
-    let s = c.args in
-    rw (c.if-not-force.false, ← c.begin_bytes-begun_by.ensures)
-    (ap (λ t. eqb s.self.done 0 && t) c.same.ensures)
+returns-then-self-eq0 c =
+    rw (c.if-not-force.false, eq-eqb c.args.self.done 0 c.if-self-eq0.true) (c.same.ensures ∙ rw (c.begin_bytes-begun_by.ensures, c.in-Ok.ensures.1))
+
+pub returns-else-self-eq0 : goal.returns-else-self-eq0
+unfolding again_if begun_by
+returns-else-self-eq0 c = rw (c.if-not-force.false, ne_eqb c.args.self.done 0 c.if-self-eq0.false)

@@ -7,4 +7,4 @@ pub returns : goal.returns
 unfolding onward step
 returns c =
     let (long, symbol, next) = c.requires in
-    rw (c.shift-v.ensures, long, symbol, next)
+    rw (c.shift-next.ensures, long, symbol, next)

@@ -34,17 +34,17 @@ returns-then-number-eq0 c =
 pub stepped-requires : goal.stepped-requires
 stepped-requires c = length-ok (goal.at.stepped-requires c).Else-not-has_begun
 
-pub returns-then-number-done : goal.returns-then-number-done
-returns-then-number-done c =
+pub returns-then-number-self : goal.returns-then-number-self
+returns-then-number-self c =
     c.stepped.ensures
-    ∙ if_begun_lem c.args.self _ (begun (goal.at.returns-then-number-done c).Else-not-has_begun)
-    (resent c.args.self c.args.number c.if-number-eq0.false c.if-number-done.true)
+    ∙ if_begun_lem c.args.self _ (begun (goal.at.returns-then-number-self c).Else-not-has_begun)
+    (resent c.args.self c.args.number c.if-number-eq0.false c.if-number-self.true)
 
-pub returns-then-number-done-2 : goal.returns-then-number-done-2
-returns-then-number-done-2 c =
-    c.refuse-then-number-done-2.ensures
-    ∙ if_begun_lem c.args.self _ (begun (goal.at.returns-then-number-done-2 c).Else-not-has_begun)
-    (misnumbered c.args.self c.args.number c.if-number-eq0.false c.if-number-done.false c.if-number-done-2.true)
+pub returns-then-number-self-2 : goal.returns-then-number-self-2
+returns-then-number-self-2 c =
+    c.refuse-then-number-self-2.ensures
+    ∙ if_begun_lem c.args.self _ (begun (goal.at.returns-then-number-self-2 c).Else-not-has_begun)
+    (misnumbered c.args.self c.args.number c.if-number-eq0.false c.if-number-self.false c.if-number-self-2.true)
 
 pub returns : goal.returns
 returns c =
@@ -52,6 +52,6 @@ returns c =
     let b = begun (goal.at.returns c).Else-not-has_begun in
     let known = (says_begun x).to b in
     let end = looked_up x.n _ known.round.high refl in
-    let last : ¬ (x.done < a x.n) = λ lt. c.requires (omega (arith, c.if-number-eq0.false, c.if-number-done-2.false)) (omega arith) in
+    let last : ¬ (x.done < a x.n) = λ lt. c.requires (omega (arith, c.if-number-eq0.false, c.if-number-self-2.false)) (omega arith) in
     c.refuse-2.ensures ∙ if_begun_lem x _ b
-    (finished x c.args.number c.if-number-eq0.false c.if-number-done-2.false (omega (arith, known.within, last)))
+    (finished x c.args.number c.if-number-eq0.false c.if-number-self-2.false (omega (arith, known.within, last)))

@@ -15,8 +15,8 @@ use Rattle.stepper.proofs.session.Session.stepped.Goals as goal
 pub overflow_sub-symbol : goal.overflow_sub-symbol
 overflow_sub-symbol c = ((says_length _).to c.requires).0
 
-pub bounds-w-n : goal.bounds-w-n
-bounds-w-n c = omega (arith, (says_length _).to c.requires)
+pub bounds-self-self : goal.bounds-self-self
+bounds-self-self c = omega (arith, (says_length _).to c.requires)
 
 pub returns : goal.returns
 unfolding stepped step_reply

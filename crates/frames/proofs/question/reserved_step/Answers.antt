@@ -1,7 +1,0 @@
--- `reserved_step` meets its contract, by that of `zeros_in`. Assumes nothing.
-use Rattle.frames.specs.Question.{reserved_s}
-use Rattle.frames.proofs.question.reserved_step.Goals as goal
-
-pub returns : goal.returns
-unfolding reserved_s
-returns c = rw (c.round_number_ok.ensures, c.zeros_in.ensures, c.zeros_in-2.ensures)
