@@ -24,10 +24,11 @@ fn is_allowed(b: u8, n: usize) -> bool
     b == OPEN || usize::from(b) < n
 }
 
-fn all_allowed(bytes: &[u8], n: usize) -> bool
-    ensures { result ≡ list_all (is_allowed n) bytes.now }
+fn all_allowed(bytes: [u8; 16], n: usize) -> bool
+    requires { n ≤ 16 }
+    ensures { result ≡ list_all (is_allowed n) (take n bytes) }
 {
-    bytes.iter().all(|&b| is_allowed(b, n))
+    bytes[..n].iter().all(|&b| is_allowed(b, n))
 }
 
 // One more than the largest height that the table has; 0 where it has none.
@@ -93,7 +94,7 @@ impl Pattern {
         if !weak_orders::is_length(n) {
             return Err(Cause::WindowLength);
         }
-        if !all_allowed(&bytes[..n], n) {
+        if !all_allowed(bytes, n) {
             return Err(Cause::NotWeakOrder);
         }
         Ok(Pattern { bytes, n })

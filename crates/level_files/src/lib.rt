@@ -52,7 +52,10 @@ pub fn read_table(file: &[u8]) -> Option<[i16; 16]>
     if 512 < file.len() {
         return None;
     }
-    let text = file.strip_prefix(b"d level\n")?;
+    if !decimals::begins_with(file, b"d level\n") {
+        return None;
+    }
+    let text = &file[8..];
     let lines = level_lines(text)?;
     if lines.len != text.len() {
         return None;

@@ -14,7 +14,7 @@ pub(crate) fn put(out: &mut [u8], at: usize, b: u8) -> usize
     at + 1
 }
 
-// A decimal, the digits before the last one first.
+// A decimal, the digits before the last one first. `as` narrows one digit.
 pub(crate) fn put_decimal(out: &mut [u8], at: usize, v: u64) -> usize
     requires { at + length (decimal v) ≤ length out.old }
     ensures { Wrote out.old at (decimal v) result out.new }

@@ -12,7 +12,7 @@ unfoldable pub counted : ℕ → Result ℕ Cause
 unfolding is_length a
 counted n = cond (is_length n) (Ok (a n)) (Err WindowLength)
 
--- a number for an answer, by the verdict on the window
+-- a number for an answer, where the window is accepted
 unfoldable pub number_by : Result (Unit {0}) Cause → ℕ → Result ℕ Cause
 number_by (Ok _) k = Ok k
 number_by (Err cause) k = Err cause

@@ -231,7 +231,7 @@ impl Session {
     fn is_next(self, number: u64) -> bool
         ensures { Says result ((number ≡ self.done + 1) × (self.done < cond (leb self.n 16) (a self.n) 0)) }
     {
-        self.done.checked_add(1) == Some(number) && self.done < ranking::weak_order_count(self.n)
+        number.checked_sub(1) == Some(self.done) && self.done < ranking::weak_order_count(self.n)
     }
 
     // The next step. What gives the symbol tests the window's form, so that it is tested once a frame.

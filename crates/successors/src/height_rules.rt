@@ -4,7 +4,7 @@ ghost use Rattle.std.specs.Prelude.{true, ◌∷◌, ◌≡◌, ◌==◌, ◌-�
 ghost use Rattle.weak_orders.specs.Window.{is_height};
 ghost use Rattle.successors.specs.Rules.{in_r, rule2, rule3};
 
-// A window of n in height form.
+// A window of n in height form. The tests of its symbols are inlined, since a call copies it.
 #[derive(Clone, Copy)]
 pub(crate) struct HeightWindow {
     pub(crate) w: [u8; 16],
@@ -16,22 +16,25 @@ pub(crate) struct HeightWindow {
 
 impl HeightWindow {
     // No symbol behind the first is larger than x.
-    fn none_above(&self, x: u8) -> bool
-        ensures { result ≡ list_all (λ v. leb v x) (slice_range self.now.w 1 self.now.n) }
+    #[inline(always)]
+    fn none_above(self, x: u8) -> bool
+        ensures { result ≡ list_all (λ v. leb v x) (slice_range self.w 1 self.n) }
     {
         self.w[1..self.n].iter().all(|&v| v <= x)
     }
 
     // The symbol v occurs behind the first. `contains` reads groups of bytes through buffers of its own, which took 600 bytes of stack.
-    fn occurs_behind(&self, v: u8) -> bool
-        ensures { result ≡ list_any (λ y. y == v) (slice_range self.now.w 1 self.now.n) }
+    #[inline(always)]
+    fn occurs_behind(self, v: u8) -> bool
+        ensures { result ≡ list_any (λ y. y == v) (slice_range self.w 1 self.n) }
     {
         self.w[1..self.n].iter().any(|&y| y == v)
     }
 
     // Every symbol from a up to x, x not included, occurs behind the first.
-    fn all_behind(&self, a: u8, x: u8) -> bool
-        ensures { result ≡ list_all (λ v. list_any (λ y. y == v) (slice_range self.now.w 1 self.now.n)) (range_with_len a (x - a)) }
+    #[inline(always)]
+    fn all_behind(self, a: u8, x: u8) -> bool
+        ensures { result ≡ list_all (λ v. list_any (λ y. y == v) (slice_range self.w 1 self.n)) (range_with_len a (x - a)) }
     {
         (a..x).all(|v| self.occurs_behind(v))
     }
@@ -39,8 +42,8 @@ impl HeightWindow {
     // The window with x for its first symbol is in R. The symbols below the window's own first symbol need no test: in a window in height
     // form they all occur behind it.
     #[tactic(auto, using(crate::proofs::HeightWindows::in_r_cases))]
-    fn in_r(&self, x: u8) -> bool
-        ensures { result ≡ in_r (x ∷ slice_range self.now.w 1 self.now.n) }
+    fn in_r(self, x: u8) -> bool
+        ensures { result ≡ in_r (x ∷ slice_range self.w 1 self.n) }
     {
         if x == 0 || !self.none_above(x) || !self.all_behind(self.w[0], x) {
             return false;
@@ -53,8 +56,8 @@ impl HeightWindow {
     // The symbol that follows by rule 2. Where a symbol behind is larger than w1 + 1, no first symbol up to w1 + 1 puts the window in R:
     // most windows end there.
     #[tactic(auto, using(crate::proofs::HeightWindows::rule2_cases))]
-    pub(crate) fn successor2(&self) -> u8
-        ensures { result ≡ rule2 (take self.now.n self.now.w) }
+    pub(crate) fn successor2(self) -> u8
+        ensures { result ≡ rule2 (take self.n self.w) }
     {
         let a = self.w[0];
         let up = a + 1;
@@ -76,8 +79,8 @@ impl HeightWindow {
 
     // The symbol that follows by rule 3, with the same first test.
     #[tactic(auto, using(crate::proofs::HeightWindows::rule3_cases))]
-    pub(crate) fn successor3(&self) -> u8
-        ensures { result ≡ rule3 (take self.now.n self.now.w) }
+    pub(crate) fn successor3(self) -> u8
+        ensures { result ≡ rule3 (take self.n self.w) }
     {
         let a = self.w[0];
         let up = a + 1;

@@ -18,8 +18,8 @@ fn passes(v: u8, often: u8, p: u8) -> bool
     v != p && (v == 1 || often == 1)
 }
 
-// A window of n in rank form, and how often each symbol occurs in it. Its methods borrow it: by value each call copies it, which is slower and
-// takes 130 bytes of stack more.
+// A window of n in rank form, and how often each symbol occurs in it. It goes by value, as every window does; most methods are inlined, since a
+// call copies it.
 #[derive(Clone, Copy)]
 struct RankWindow {
     w: [u8; 16],
@@ -34,10 +34,11 @@ struct RankWindow {
 
 impl RankWindow {
     // Each symbol from index a up to b passes.
+    #[inline(always)]
     #[tactic(auto, unfolding(crate::specs::ByTable::passes_by, crate::specs::ByTable::single_by))]
-    fn all_pass(&self, a: usize, b: usize, p: u8) -> bool
-        requires { (a ≤ b) × (b ≤ self.now.n) }
-        ensures { result ≡ list_all (passes_by self.now.t p) (slice_range self.now.w a b) }
+    fn all_pass(self, a: usize, b: usize, p: u8) -> bool
+        requires { (a ≤ b) × (b ≤ self.n) }
+        ensures { result ≡ list_all (passes_by self.t p) (slice_range self.w a b) }
     {
         self.w[a..b]
             .iter()
@@ -45,8 +46,9 @@ impl RankWindow {
     }
 
     // Behind the first symbol and before any 1 stands one that does not pass.
-    fn repeat_before_one(&self, p: u8) -> bool
-        ensures { result ≡ true → RepeatBeforeOne (passes_by self.now.t p) self.now.n self.now.w }
+    #[inline(always)]
+    fn repeat_before_one(self, p: u8) -> bool
+        ensures { result ≡ true → RepeatBeforeOne (passes_by self.t p) self.n self.w }
     {
         for &v in &self.w[1..self.n] {
             if v == 1 {
@@ -62,9 +64,9 @@ impl RankWindow {
     // The scan up to `start` of the window with x first: each symbol behind the first passes. The least rotation of a rank window starts with
     // a 1, so most windows need no search for it.
     #[tactic(auto, using(crate::proofs::RankWindows::start_rules))]
-    fn single_before_start(&self, x: u8, p: u8) -> bool
-        requires { (1 < x) × (is_rank (x ∷ drop 1 (take self.now.n self.now.w)) ≡ true) }
-        ensures { result ≡ scan_by (start (x ∷ drop 1 (take self.now.n self.now.w))) self.now.t (take self.now.n self.now.w) p }
+    fn single_before_start(self, x: u8, p: u8) -> bool
+        requires { (1 < x) × (is_rank (x ∷ drop 1 (take self.n self.w)) ≡ true) }
+        ensures { result ≡ scan_by (start (x ∷ drop 1 (take self.n self.w))) self.t (take self.n self.w) p }
     {
         if self.repeat_before_one(p) {
             return false;
@@ -76,9 +78,10 @@ impl RankWindow {
     }
 
     // The largest symbol below v, or 0.
-    fn largest_below(&self, v: u8) -> u8
+    #[inline(always)]
+    fn largest_below(self, v: u8) -> u8
         requires { v ≤ 16 }
-        ensures { result ≡ largest_by self.now.t v }
+        ensures { result ≡ largest_by self.t v }
     {
         for p in (0..v).rev() {
             if self.t[usize::from(p)] != 0 {
@@ -89,10 +92,11 @@ impl RankWindow {
     }
 
     // Case 3; `plain` says whether the window is plain. Its scan excludes no p: it is handed 0, which no rank window holds.
+    #[inline(always)]
     #[tactic(auto, using(crate::proofs::RankWindows::case3_rules))]
-    fn is_case3(&self, plain: bool) -> bool
-        requires { plain ≡ is_plain (take self.now.n self.now.w) }
-        ensures { result ≡ case3 (get_or self.now.w 0 0) (drop 1 (take self.now.n self.now.w)) }
+    fn is_case3(self, plain: bool) -> bool
+        requires { plain ≡ is_plain (take self.n self.w) }
+        ensures { result ≡ case3 (get_or self.w 0 0) (drop 1 (take self.n self.w)) }
     {
         let a = self.w[0];
         if plain || a <= 1 || self.t[usize::from(a)] <= 1 {
@@ -102,10 +106,11 @@ impl RankWindow {
     }
 
     // Case 4 for p, the largest symbol below the first. The rotation is that of the window with p first, which is a rank window too.
+    #[inline(always)]
     #[tactic(auto, using(crate::proofs::RankWindows::case4_rules))]
-    fn is_case4(&self, p: u8) -> bool
-        requires { p ≡ largest_below (take self.now.n self.now.w) (get_or self.now.w 0 0) }
-        ensures { result ≡ case4 (get_or self.now.w 0 0) (drop 1 (take self.now.n self.now.w)) p }
+    fn is_case4(self, p: u8) -> bool
+        requires { p ≡ largest_below (take self.n self.w) (get_or self.w 0 0) }
+        ensures { result ≡ case4 (get_or self.w 0 0) (drop 1 (take self.n self.w)) p }
     {
         let a = self.w[0];
         if a <= 1 || self.t[usize::from(a)] != 1 || p == 1 {
@@ -115,9 +120,10 @@ impl RankWindow {
     }
 
     // The symbol that follows: the first case that applies.
+    #[inline(always)]
     #[tactic(auto, using(crate::proofs::RankWindows::rule1_rules))]
-    fn successor1(&self) -> u8
-        ensures { result ≡ rule1 (take self.now.n self.now.w) }
+    fn successor1(self) -> u8
+        ensures { result ≡ rule1 (take self.n self.w) }
     {
         let plain = self.all_pass(0, self.n, 0);
         let ones = self.t[1];
@@ -136,7 +142,9 @@ impl RankWindow {
     }
 }
 
-// The symbol that follows a window by rule 1, or why there is none: tests 6 and 8, as the number 1 passes test 7.
+// The symbol that follows a window by rule 1, or why there is none: tests 6 and 8, as the number 1 passes test 7. Out of line, so that a step by
+// another rule needs less stack.
+#[inline(never)]
 #[tactic(auto, using(crate::proofs::Steppable::judged_by_table, crate::proofs::RuleNumbers::is_rule1), unfolding(crate::specs::NextSymbol::next_symbol, crate::specs::NextSymbol::answer_by))]
 pub(crate) fn next_in_ranks(w: [u8; 16], n: usize) -> Result<u8, Cause>
     ensures { result ≡ next_symbol 1 n (take n w) }

@@ -4,7 +4,6 @@ use mathlib.Core.Path.{◌≡◌, sym, ◌∙◌}
 use Prim.Native.Nat.{◌≤◌}
 use native.Mathlib.Omega.{arith}
 use lib.ListN.{length, take}
-use lib.Seq.{length-take-le}
 use borrow.Author.Rules.{rules}
 use Rattle.weak_orders.specs.Window.{is_length}
 use Rattle.weak_orders.proofs.FormTests.{says_length}
@@ -24,15 +23,8 @@ returns-then-not-is_length-clause-refused c = rw (sym c.is_length.ensures ∙ c.
 few : (c : Else-not-is_length) → (1 ≤ c.args.n) × (c.args.n ≤ 16)
 few c = (says_length _).to (long c)
 
-pub slice_bounds-bytes-end : goal.slice_bounds-bytes-end
-slice_bounds-bytes-end c =
-    let l : length c.args.bytes ≡ 16 = search rules in
-    omega (arith, few (goal.at.slice_bounds-bytes-end c).Else-not-is_length)
-
-pub slice_bounds-all_allowed-end : goal.slice_bounds-all_allowed-end
-slice_bounds-all_allowed-end c =
-    let l : length c.args.bytes ≡ 16 = search rules in
-    sym (length-take-le c.args.n c.args.bytes (omega (arith, few (goal.at.slice_bounds-all_allowed-end c).Else-not-is_length)))
+pub all_allowed-requires : goal.all_allowed-requires
+all_allowed-requires c = (few (goal.at.all_allowed-requires c).Else-not-is_length).1
 
 -- each byte tested
 tested : (c : After-all_allowed) → c.args.n ≤ 16 → is_pattern c.args.n (take c.args.n c.args.bytes) ≡ c.all_allowed.result

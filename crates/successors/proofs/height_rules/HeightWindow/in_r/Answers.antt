@@ -8,12 +8,12 @@ use Rattle.successors.proofs.HeightWindows.{head, tail, form}
 use Rattle.successors.proofs.height_rules.HeightWindow.in_r.Goals.{Start, then-x-eq0-via-then-x-eq0, then-x-eq0-via-else-x-eq0+then-not-none_above, then-x-eq0-via-else-x-eq0+else-not-none_above+then-not-all_behind}
 use Rattle.successors.proofs.height_rules.HeightWindow.in_r.Goals as goal
 
-sixteen : (s : Start) → length s.args.self.now.w ≡ 16
+sixteen : (s : Start) → length s.args.self.w ≡ 16
 sixteen s = search rules
 
 pub returns-then-x-eq0 : goal.returns-then-x-eq0
 returns-then-x-eq0 c =
-    let h = c.args.self.now in
+    let h = c.args.self in
     let x = c.args.x in
     elim c.then-x-eq0.branch [
       | then-x-eq0-via-then-x-eq0 w ↦ in_r_zero x (tail h) w.if-x-eq0.true

@@ -13,7 +13,7 @@ use Rattle.successors.proofs.rank_rule.RankWindow.all_pass.Goals as goal
 pub all-requires-clause-callable : goal.all-requires-clause-callable
 all-requires-clause-callable c =
     let a = c.args in
-    let r = a.self.now in
+    let r = a.self in
     let l : length r.w ≡ 16 = search rules in
     let low = part_low r.w r.n a.a a.b r.low c.requires.1 (omega (arith, l, r.most)) in
     serves_from_places (YieldsList-from_slice (slice_range r.w a.a a.b) cc) (λ x q s. search rules)
