@@ -142,9 +142,7 @@ impl RankWindow {
     }
 }
 
-// The symbol that follows a window by rule 1, or why there is none: tests 6 and 8, as the number 1 passes test 7. Out of line, so that a step by
-// another rule needs less stack.
-#[inline(never)]
+// The symbol that follows a window by rule 1, or why there is none: tests 6 and 8, as the number 1 passes test 7.
 #[tactic(auto, using(crate::proofs::Steppable::judged_by_table, crate::proofs::RuleNumbers::is_rule1), unfolding(crate::specs::NextSymbol::next_symbol, crate::specs::NextSymbol::answer_by))]
 pub(crate) fn next_in_ranks(w: [u8; 16], n: usize) -> Result<u8, Cause>
     ensures { result ≡ next_symbol 1 n (take n w) }
